@@ -1,0 +1,6 @@
+pub mod Pick
+pub mod PickLaws
+pub mod Tests
+pub mod TestsLaws
+pub mod Run
+pub mod RunLaws
