@@ -77,7 +77,7 @@ pub fn shown_at(p: Place, n: Digits) -> Shown
     }
 }
 
-fn net_or_gross(nets: bool, n: Digits, g: Digits) -> Digits
+pub fn net_or_gross(nets: bool, n: Digits, g: Digits) -> Digits
     ensures { λ r. ⌜ r ≡ pick nets n g ⌝ }
 {
     if nets { n } else { g }

@@ -6,8 +6,9 @@ use Prim.Native.Nat.{ℕ, _≤_}
 use borrow.Author.Tests.{leb-true, eqb-true}
 use lib.Dec.{leb, eqb}
 use lib.IntN.{ℤ, pos, natAbs}
+use Rattle.cases.specs.PickLaws.{not-both}
 use Rattle.cases.specs.TestsLaws.{both-yes}
-use Rattle.whole.specs.Sets.{Between, Among, Sized, oneOf, among, inside}
+use Rattle.whole.specs.Sets.{Range, Between, Among, Sized, oneOf, among, has, inside}
 
 pub between-yes : (n lo hi : ℕ) → inside (Between lo hi) (pos n) ≡ true → (lo ≤ n) × (n ≤ hi)
 between-yes n lo hi e = let h = both-yes (leb lo n) (leb n hi) e in (leb-true lo n (h .0), leb-true n hi (h .1))
@@ -30,3 +31,11 @@ one-yes P b n (m ∷ ms) f a e = one-yes P (b || eqb n m) n ms (or-yes (P n) b (
 
 pub among-yes : (P : ℕ → Type 0) (n m : ℕ) (ms : List ℕ) → P m → Each P ms → inside (Among (m ∷ ms)) (pos n) ≡ true → P n
 among-yes P n m ms p a e = one-yes P (eqb n m) n ms (λ q. subst P (sym (eqb-true n m q)) p) a e
+
+-- a number of a set that holds none below zero is one of them by its size alone
+pub has-plus : (s : Range) (b : Bool) (n : ℕ) → has s b n ≡ true → has s true n ≡ true
+has-plus (Between lo hi) true n e = e
+has-plus (Between lo hi) false n e = absurd (not-both false e refl)
+has-plus (Among ms) true n e = e
+has-plus (Among ms) false n e = absurd (not-both false e refl)
+has-plus (Sized m) b n e = e

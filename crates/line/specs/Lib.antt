@@ -1,0 +1,13 @@
+pub mod Line
+pub mod LineLaws
+pub mod Cut
+pub mod CutLaws
+pub mod Names
+pub mod Param
+pub mod Shape
+pub mod ReadLaws
+pub mod Written
+pub mod ShapeLaws
+pub mod PlaceLaws
+pub mod SentLaws
+pub mod Rows
