@@ -1,0 +1,10 @@
+-- `commands::ask::from_cell` meets its contract. Assumes nothing.
+use mathlib.Core.Path.{ap}
+use native.Mathlib.Omega.{arith}
+use Rattle.whole.specs.Bits.{same-eq}
+use Rattle.commands.specs.ObeyLaws.{printed}
+use Rattle.commands.proofs.ask.from_cell.Statement.{statement}
+use Rattle.commands.proofs.ask.from_cell.Tie as tie
+
+pub from-cell-spec : {M : Type 1} → statement M
+from-cell-spec = tie.close (tie.spec (λ c. ap printed (omega (arith, same-eq))))

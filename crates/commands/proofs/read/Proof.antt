@@ -1,0 +1,20 @@
+-- `commands::read` meets its contract. Assumes nothing.
+use borrow.Author.Needs.{needs}
+use Rattle.commands.specs.Obey.{judge}
+use Rattle.commands.proofs.read.Statement.{statement}
+use Rattle.commands.proofs.read.Tie as tie
+
+pub read-spec : {M : Type 1} → statement M
+unfolding judge
+read-spec =
+    tie.close
+    (tie.spec
+    (λ c. search needs)
+    (λ c κs. search needs)
+    (λ c. search needs)
+    (λ c κs. search needs)
+    (λ c. search needs)
+    (λ c κs. search needs)
+    (λ c. rw (c .refused .ensures, c .before .enum-told .given .1))
+    (λ c. rw (c .refused2 .ensures, c .before .enum-told2 .given .1))
+    (λ c. rw (c .serve .ensures, c .before .before .x .given .1)))

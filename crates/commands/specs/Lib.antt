@@ -1,0 +1,13 @@
+pub mod Needs
+pub mod Plans
+pub mod Queries
+pub mod Obey
+pub mod ObeyLaws
+pub mod JudgeLaws
+pub mod Keeps
+pub mod Effects
+pub mod Bands
+pub mod Refusals
+pub mod Answers
+pub mod Rows
+pub mod WordLaws

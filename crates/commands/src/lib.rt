@@ -1,0 +1,112 @@
+// A line, obeyed: its shape read, its needs looked at in document 01's order, then done or refused.
+use crate::ask::ask;
+use crate::judge::refused;
+use line::cut::Pos;
+use line::names::Name;
+use line::shape::Param;
+use line::shape::Shape;
+use reply::Reply;
+use state::Reason;
+use state::Setting;
+use state::Unit;
+ghost use mathlib.Core.Path.{_≡_};
+ghost use Rattle.state.specs.RangedLaws.{Ranged};
+ghost use Rattle.line.specs.Shape.{shapeOf};
+ghost use Rattle.commands.specs.Plans.{commandPlan};
+ghost use Rattle.commands.specs.Obey.{judge, servedPlan, shapePlan, obeyOf, answerOf};
+
+pub mod ask;
+pub mod judge;
+pub mod measure;
+pub mod set;
+pub mod trade;
+pub mod word;
+
+pub struct Answer {
+    pub unit: Unit,
+    pub reply: Reply,
+}
+
+// A command that is no query. `s` is the line, where texts lie.
+fn command(u: Unit, s: &[u8], n: Name, p: Param) -> Answer
+    requires { ⌜ Ranged u ⌝ }
+    ensures { λ r. ⌜ r ≡ answerOf (judge u (commandPlan u (now (s .entry)) n p)) ⌝ }
+{
+    match n {
+        Name::Gca => set::on_setting(u, Setting::Gca, p),
+        Name::Gde => set::on_setting(u, Setting::Gde, p),
+        Name::Cwt => set::on_cwt(u, p),
+        Name::Ldw => measure::on_ldw(u, p),
+        Name::Lwt => measure::on_lwt(u, p),
+        Name::Nov => set::on_setting(u, Setting::Nov, p),
+        Name::Rsn => set::on_setting(u, Setting::Rsn, p),
+        Name::Enu => set::on_setting(u, Setting::Enu, p),
+        Name::Dpt => set::on_setting(u, Setting::Dpt, p),
+        Name::Zse => set::on_setting(u, Setting::Zse, p),
+        Name::Ztr => set::on_setting(u, Setting::Ztr, p),
+        Name::Lft => trade::on_lft(u, p),
+        Name::Cof => set::on_cof(u, p),
+        Name::Tas => set::on_tas(u, p),
+        Name::Tav => set::on_tav(u, p),
+        Name::Tar => measure::on_tar(u, p),
+        Name::Cdl => measure::on_cdl(u, p),
+        Name::Res => trade::on_res(u, p),
+        Name::Tdd => trade::on_tdd(u, p),
+        Name::Spw => word::on_spw(u, s, p),
+        Name::Dpw => word::on_dpw(u, s, p),
+        Name::Msv => refused(u, Reason::Form),
+        Name::Tcr => refused(u, Reason::Form),
+        Name::Esr => refused(u, Reason::Form),
+    }
+}
+
+fn serve(u: Unit, s: &[u8], n: Name, p: Param) -> Answer
+    requires { ⌜ Ranged u ⌝ }
+    ensures { λ r. ⌜ r ≡ answerOf (judge u (servedPlan u (now (s .entry)) n p)) ⌝ }
+{
+    let Param::Query = p else {
+        return command(u, s, n, p);
+    };
+    ask(u, n)
+}
+
+// A line that kept bytes and is not too long.
+fn read(u: Unit, s: &[u8], x: Shape) -> Answer
+    requires { ⌜ Ranged u ⌝ }
+    ensures { λ r. ⌜ r ≡ answerOf (judge u (shapePlan u (now (s .entry)) x)) ⌝ }
+{
+    match x {
+        Shape::Malformed => refused(u, Reason::Form),
+        Shape::Unknown => refused(u, Reason::Unknown),
+        Shape::Command { name, param } => serve(u, s, name, param),
+    }
+}
+
+fn read_kept(u: Unit, s: &[u8]) -> Answer
+    requires { ⌜ Ranged u ⌝ }
+    ensures { λ r. ⌜ r ≡ answerOf (judge u (shapePlan u (now (s .entry)) (shapeOf (now (s .entry))))) ⌝ }
+{
+    let x = line::shape::read_line(s);
+    read(u, s, x)
+}
+
+pub fn obey(u: Unit, kept: [u8; 40], p: Pos) -> Answer
+    requires { ⌜ Ranged u ⌝ }
+    ensures { λ r. ⌜ r ≡ answerOf (obeyOf u kept p) ⌝ }
+{
+    let n = p.len;
+    if n == 0 {
+        return Answer {
+            unit: u,
+            reply: reply::empty(),
+        };
+    }
+    let g = p.long;
+    if g {
+        return refused(u, Reason::Long);
+    }
+    if n < 40 {
+        return read_kept(u, &kept[..n]);
+    }
+    read_kept(u, &kept[..])
+}

@@ -1,0 +1,12 @@
+-- `state::changes::alter` meets its contract. Assumes nothing.
+use borrow.Author.Needs.{needs}
+use Rattle.state.proofs.changes.alter.Statement.{statement}
+use Rattle.state.proofs.changes.alter.Tie as tie
+
+pub alter-spec : {M : Type 1} → statement M
+alter-spec =
+    tie.close
+    (tie.spec
+    (λ c κs. search needs)
+    (λ c κs. search needs)
+    (λ c. rw (c .before .no-zeros .ensures, c .before .before .gross-shown .ensures)))

@@ -1,0 +1,4 @@
+pub mod Reading
+pub mod Samples
+pub mod RangeLaws
+pub mod SampleLaws
