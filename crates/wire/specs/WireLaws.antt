@@ -1,0 +1,69 @@
+-- What a host may rely on when it hands a block over. Assumes nothing.
+use mathlib.Core.Bool.{Bool, true, false}
+use mathlib.Core.Path.{_≡_, refl, sym, ap, _∙_}
+use mathlib.Core.Logic.{⊎-elim}
+use mathlib.Core.List.{List, [], _∷_, _++_}
+use Prim.Native.Nat.{ℕ, suc, _+_, _-_, _≤_, _<_}
+use native.Mathlib.Omega.{arith}
+use lib.Dec.{ltb}
+use lib.ListN.{length, take}
+use borrow.Author.Tests.{ltb-true, ltb-false}
+use Rattle.cases.specs.PickLaws.{bool-cases, split}
+use Rattle.cases.specs.Pick.{pick}
+use Rattle.cases.specs.Run.{Run, Machine, stop, after, roomOf, runOf}
+use Rattle.cases.specs.RunLaws.{run-full, run-byte, run-append, out-fits}
+use Rattle.state.specs.declared.Unit.{Unit as TheUnit}
+use Rattle.state.specs.Ranged.{rangedOf}
+use Rattle.state.specs.RangedLaws.{Ranged, yes-ranged}
+use Rattle.wire.specs.Wire.{machine, blockOf, takenOf}
+use Rattle.wire.specs.EachLaws.{Stopped, run-each}
+use Rattle.wire.specs.TurnLaws.{step-ranged}
+
+-- ---- the guard
+-- a unit in range is served by the plain rules
+pub block-plain : (u : TheUnit) (free : ℕ) (s : List ℕ) → Ranged u → blockOf u free s ≡ runOf machine u free s
+block-plain u free s h = rw (yes-ranged h)
+
+-- and one out of range is left alone, with the whole room
+pub block-none : (u : TheUnit) (free : ℕ) (s room : List ℕ) → rangedOf u ≡ false → (takenOf (blockOf u free s) ≡ record { next = u; taken = 0; written = 0 }) × (roomOf (blockOf u free s) room ≡ room)
+block-none u free s room e = rw e (refl, refl)
+
+-- room for less than the longest reply: nothing is taken, written or changed
+pub block-full : (u : TheUnit) (free : ℕ) (s room : List ℕ) → free < 17 → (takenOf (blockOf u free s) ≡ record { next = u; taken = 0; written = 0 }) × (roomOf (blockOf u free s) room ≡ room)
+block-full u free s room h =
+    rw (run-full machine u free s h) (split (λ b. (takenOf (pick b (stop u) (stop u)) ≡ record { next = u; taken = 0; written = 0 }) × (roomOf (pick b (stop u) (stop u)) room ≡ room)) (rangedOf u) (λ _. (refl, refl)) (λ _. (refl, refl)))
+
+-- ---- a block goes on: with room for a reply, a byte is taken
+pub block-goes : (u : TheUnit) (free b : ℕ) (s : List ℕ) → Ranged u → 17 ≤ free → 1 ≤ takenOf (blockOf u free (b ∷ s)) .taken
+block-goes u free b s h k = rw (block-plain u free (b ∷ s) h, run-byte machine u free b s k) (omega arith)
+
+-- ---- a block is its taken bytes one by one: the unit, the replies, and why it stopped
+pub block-each : (u : TheUnit) (free : ℕ) (s : List ℕ) → Ranged u → Stopped machine u free s (blockOf u free s)
+block-each u free s h = rw (block-plain u free s h) (run-each machine s u free)
+
+-- ---- what is written never passes the room
+pub block-fits : (u : TheUnit) (free : ℕ) (s : List ℕ) → length (blockOf u free s .out) ≤ free
+block-fits u free s = split (λ b. length (pick b (runOf machine u free s) (stop u) .out) ≤ free) (rangedOf u) (λ _. out-fits machine s u free) (λ _. omega arith)
+
+-- ---- a run keeps the ranges
+step-keeps : (u : TheUnit) (f b : ℕ) (t : List ℕ) → Ranged u → Ranged (runOf machine (machine .next u b) (f - length (machine .text u b)) t .next) → Ranged (runOf machine u f (b ∷ t) .next)
+step-keeps u f b t h k = ⊎-elim full more (bool-cases (ltb f 17))
+  where
+    full : ltb f 17 ≡ true → Ranged (runOf machine u f (b ∷ t) .next)
+    full e = rw (run-full machine u f (b ∷ t) (ltb-true f 17 e)) h
+
+    more : ltb f 17 ≡ false → Ranged (runOf machine u f (b ∷ t) .next)
+    more e = rw (run-byte machine u f b t (ltb-false f 17 e)) k
+
+pub run-ranged : (s : List ℕ) (u : TheUnit) (f : ℕ) → Ranged u → Ranged (runOf machine u f s .next)
+unfolding runOf
+run-ranged [] u f h = h
+run-ranged (b ∷ t) u f h = step-keeps u f b t h (run-ranged t (machine .next u b) (f - length (machine .text u b)) (step-ranged u b h))
+
+-- ---- a block that is taken whole and then another are both at once
+pub block-append : (u : TheUnit) (free : ℕ) (s t : List ℕ) → Ranged u → blockOf u free s .taken ≡ length s →
+    blockOf u free (s ++ t) ≡ after (length s) (blockOf u free s .out) (blockOf (blockOf u free s .next) (free - length (blockOf u free s .out)) t)
+block-append u free s t h e =
+    let p = block-plain u free s h in
+    let e′ : runOf machine u free s .taken ≡ length s = rw p at e in
+    rw (p, block-plain u free (s ++ t) h, block-plain (runOf machine u free s .next) (free - length (runOf machine u free s .out)) t (run-ranged s u free h)) (run-append machine s t u free e′)
