@@ -87,6 +87,10 @@ paramOf t =
     (pick (eqb (getD t 0 0) 0x2b) (numberOf false (drop 1 t))
     (numberOf false t)))))
 
+-- what may follow the letters of a name: the same for every name
+abbrev pub paramFor : Letters → List ℕ → Reading
+paramFor n t = paramOf t
+
 -- a well-formed line is a command if its name is one: malformed before unknown
 abbrev pub knownOf : Called → Param → Shape
 knownOf called.Unknown p = shape.Unknown
@@ -101,5 +105,5 @@ unfoldable pub shapeOf : List ℕ → Shape
 shapeOf s =
     pick (ltb (length s) 3) shape.Malformed
     (pick (isLetter (getD s 0 0) && (isLetter (getD s 1 0) && isLetter (getD s 2 0)))
-    (commandOf (foldOf (getD s 0 0), foldOf (getD s 1 0), foldOf (getD s 2 0)) (paramOf (drop 3 s)))
+    (commandOf (foldOf (getD s 0 0), foldOf (getD s 1 0), foldOf (getD s 2 0)) (paramFor (foldOf (getD s 0 0), foldOf (getD s 1 0), foldOf (getD s 2 0)) (drop 3 s)))
     shape.Malformed)

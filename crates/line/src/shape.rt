@@ -6,7 +6,7 @@ use crate::names::Name;
 ghost use mathlib.Core.Path.{_≡_};
 ghost use Prim.Native.Nat.{_^_, _<_};
 ghost use lib.ListN.{take};
-ghost use Rattle.line.specs.Shape.{Small, isLetter, foldOf, isPlain, allOf, digitsOf, signedOf, numberOf, textOf, paramOf, commandOf, shapeOf};
+ghost use Rattle.line.specs.Shape.{Small, isLetter, foldOf, isPlain, allOf, digitsOf, signedOf, numberOf, textOf, paramFor, commandOf, shapeOf};
 
 // A number that was read. A type of its own: what a number may be grows here.
 pub struct Number(pub i64);
@@ -141,9 +141,9 @@ fn read_text(s: &[u8]) -> Reading
     Reading::Bad
 }
 
-// What follows the three letters. `read_line` has folded them by then, so that a form for one name alone can be read here.
-fn read_param(t: &[u8]) -> Reading
-    ensures { λ r. ⌜ r ≡ paramOf (now (t .entry)) ⌝ }
+// What follows the three letters, which are given folded: a form for one name alone is to be read here.
+fn read_param(letters: Letters, t: &[u8]) -> Reading
+    ensures { λ r. ⌜ r ≡ paramFor letters (now (t .entry)) ⌝ }
 {
     let n = t.len();
     if n < 1 {
@@ -196,7 +196,7 @@ pub fn read_line(s: &[u8]) -> Shape
     let c = s[2];
     if is_letter(a) & (is_letter(b) & is_letter(c)) {
         let n = Letters(fold(a), fold(b), fold(c));
-        return command(n, read_param(&s[3..]));
+        return command(n, read_param(n, &s[3..]));
     }
     Shape::Malformed
 }
