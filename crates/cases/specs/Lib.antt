@@ -4,3 +4,5 @@ pub mod Tests
 pub mod TestsLaws
 pub mod Run
 pub mod RunLaws
+pub mod Each
+pub mod EachLaws

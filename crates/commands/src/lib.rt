@@ -1,31 +1,21 @@
 // A line, obeyed: its shape read, its needs looked at in document 01's order, then done or refused.
-use crate::ask::ask;
-use crate::judge::refused;
+use changing::set;
+use changing::trade;
+use changing::word;
 use line::cut::Pos;
 use line::names::Name;
 use line::shape::Param;
 use line::shape::Shape;
-use reply::Reply;
+use plans::Answer;
+use plans::judge::refused;
 use state::Reason;
 use state::Setting;
 use state::Unit;
 ghost use mathlib.Core.Path.{_≡_};
 ghost use Rattle.state.specs.RangedLaws.{Ranged};
 ghost use Rattle.line.specs.Shape.{shapeOf};
-ghost use Rattle.commands.specs.Plans.{commandPlan};
-ghost use Rattle.commands.specs.Obey.{judge, servedPlan, shapePlan, obeyOf, answerOf};
-
-pub mod ask;
-pub mod judge;
-pub mod measure;
-pub mod set;
-pub mod trade;
-pub mod word;
-
-pub struct Answer {
-    pub unit: Unit,
-    pub reply: Reply,
-}
+ghost use Rattle.plans.specs.Plans.{commandPlan};
+ghost use Rattle.plans.specs.Obey.{judge, servedPlan, shapePlan, obeyOf, answerOf};
 
 // A command that is no query. `s` is the line, where texts lie.
 fn command(u: Unit, s: &[u8], n: Name, p: Param) -> Answer
@@ -36,8 +26,8 @@ fn command(u: Unit, s: &[u8], n: Name, p: Param) -> Answer
         Name::Gca => set::on_setting(u, Setting::Gca, p),
         Name::Gde => set::on_setting(u, Setting::Gde, p),
         Name::Cwt => set::on_cwt(u, p),
-        Name::Ldw => measure::on_ldw(u, p),
-        Name::Lwt => measure::on_lwt(u, p),
+        Name::Ldw => measuring::on_ldw(u, p),
+        Name::Lwt => measuring::on_lwt(u, p),
         Name::Nov => set::on_setting(u, Setting::Nov, p),
         Name::Rsn => set::on_setting(u, Setting::Rsn, p),
         Name::Enu => set::on_setting(u, Setting::Enu, p),
@@ -48,8 +38,8 @@ fn command(u: Unit, s: &[u8], n: Name, p: Param) -> Answer
         Name::Cof => set::on_cof(u, p),
         Name::Tas => set::on_tas(u, p),
         Name::Tav => set::on_tav(u, p),
-        Name::Tar => measure::on_tar(u, p),
-        Name::Cdl => measure::on_cdl(u, p),
+        Name::Tar => measuring::on_tar(u, p),
+        Name::Cdl => measuring::on_cdl(u, p),
         Name::Res => trade::on_res(u, p),
         Name::Tdd => trade::on_tdd(u, p),
         Name::Spw => word::on_spw(u, s, p),
@@ -67,7 +57,7 @@ fn serve(u: Unit, s: &[u8], n: Name, p: Param) -> Answer
     let Param::Query = p else {
         return command(u, s, n, p);
     };
-    ask(u, n)
+    asking::ask(u, n)
 }
 
 // A line that kept bytes and is not too long.

@@ -2,7 +2,6 @@ pub mod Weight
 pub mod Sets
 pub mod Display
 pub mod Zero
-pub mod Rows
 pub mod Ranges
 pub mod SetsLaws
 pub mod DisplayLaws

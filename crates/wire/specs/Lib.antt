@@ -1,7 +1,5 @@
 pub mod Step
 pub mod StepLaws
 pub mod Wire
-pub mod Each
-pub mod EachLaws
 pub mod TurnLaws
 pub mod WireLaws

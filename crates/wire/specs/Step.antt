@@ -6,7 +6,7 @@ use Rattle.line.specs.declared.cut.Moved.{Moved}
 use Rattle.line.specs.Line.{zeros, freshPos, movedOf, storedOf}
 use Rattle.state.specs.declared.Unit.{Unit as TheUnit}
 use Rattle.state.specs.Changes.{lined}
-use Rattle.commands.specs.Obey.{obeyOf}
+use Rattle.plans.specs.Obey.{obeyOf}
 
 -- within a line only the line moves
 abbrev pub movedUnit : TheUnit → Moved → ℕ → TheUnit

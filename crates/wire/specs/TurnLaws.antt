@@ -1,7 +1,7 @@
 -- Each way through the loop of `take` is one turn of the machine, and keeps the unit in range. Assumes nothing.
-use mathlib.Core.Bool.{Bool, true, false}
-use mathlib.Core.Path.{_≡_, refl, sym, ap, _∙_}
-use mathlib.Core.List.{List, [], _∷_, _++_}
+use mathlib.Core.Bool.{true, false}
+use mathlib.Core.Path.{_≡_, sym, ap, _∙_}
+use mathlib.Core.List.{List, [], _++_}
 use Prim.Native.Nat.{ℕ, _+_, _-_, _≤_, _<_}
 use native.Mathlib.Omega.{arith}
 use mir.Syntax.{w64}
@@ -16,15 +16,14 @@ use Rattle.cases.specs.RunLaws.{Going, going-start, going-on, going-quiet, goin
 use Rattle.line.specs.declared.cut.Pos.{Pos}
 use Rattle.line.specs.declared.cut.Moved.{Moved}
 use Rattle.line.specs.Line.{zeros, freshPos, movedOf, storedOf}
-use Rattle.reply.specs.declared.Reply.{Reply}
-use Rattle.reply.specs.Reply.{replyOf, said, fitting, over}
+use Rattle.reply.specs.Reply.{fitting, over}
 use Rattle.reply.specs.ReadLaws.{fits}
 use Rattle.state.specs.declared.Unit.{Unit as TheUnit}
 use Rattle.state.specs.Changes.{lined}
 use Rattle.state.specs.RangedLaws.{Ranged}
-use Rattle.commands.specs.declared.Answer.{Answer}
-use Rattle.commands.specs.Obey.{Outcome, obeyOf, answerOf}
-use Rattle.commands.specs.Keeps.{obey-ranged}
+use Rattle.plans.specs.declared.Answer.{Answer}
+use Rattle.plans.specs.Obey.{obeyOf, answerOf}
+use Rattle.plans.specs.Keeps.{obey-ranged}
 use Rattle.wire.specs.Step.{endedUnit, stepNext, stepText}
 use Rattle.wire.specs.StepLaws.{obey-short}
 use Rattle.wire.specs.Wire.{machine, takenOf}

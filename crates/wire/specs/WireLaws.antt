@@ -1,22 +1,23 @@
 -- What a host may rely on when it hands a block over. Assumes nothing.
-use mathlib.Core.Bool.{Bool, true, false}
+use mathlib.Core.Bool.{true, false}
 use mathlib.Core.Path.{_≡_, refl, sym, ap, _∙_}
 use mathlib.Core.Logic.{⊎-elim}
 use mathlib.Core.List.{List, [], _∷_, _++_}
-use Prim.Native.Nat.{ℕ, suc, _+_, _-_, _≤_, _<_}
+use Prim.Native.Nat.{ℕ, _-_, _≤_, _<_}
 use native.Mathlib.Omega.{arith}
 use lib.Dec.{ltb}
 use lib.ListN.{length, take}
 use borrow.Author.Tests.{ltb-true, ltb-false}
 use Rattle.cases.specs.PickLaws.{bool-cases, split}
 use Rattle.cases.specs.Pick.{pick}
-use Rattle.cases.specs.Run.{Run, Machine, stop, after, roomOf, runOf}
+use Rattle.cases.specs.Run.{stop, after, roomOf, runOf}
 use Rattle.cases.specs.RunLaws.{run-full, run-byte, run-append, out-fits}
 use Rattle.state.specs.declared.Unit.{Unit as TheUnit}
 use Rattle.state.specs.Ranged.{rangedOf}
 use Rattle.state.specs.RangedLaws.{Ranged, yes-ranged}
 use Rattle.wire.specs.Wire.{machine, blockOf, takenOf}
-use Rattle.wire.specs.EachLaws.{Stopped, run-each}
+use Rattle.cases.specs.Each.{nextBy, textBy}
+use Rattle.cases.specs.EachLaws.{Stopped, run-each, next-append, text-append}
 use Rattle.wire.specs.TurnLaws.{step-ranged}
 
 -- ---- the guard
@@ -67,3 +68,42 @@ block-append u free s t h e =
     let p = block-plain u free s h in
     let e′ : runOf machine u free s .taken ≡ length s = rw p at e in
     rw (p, block-plain u free (s ++ t) h, block-plain (runOf machine u free s .next) (free - length (runOf machine u free s .out)) t (run-ranged s u free h)) (run-append machine s t u free e′)
+
+-- ---- however a host cuts its bytes into blocks and rooms
+-- the blocks that a host hands over, each with the free room it lends
+pub record Block : Type 0 where
+  pub bytes : List ℕ
+  pub free : ℕ
+
+-- what they come to: the unit, all that was taken and all that was written
+unfoldable pub cutNext : TheUnit → List Block → TheUnit
+cutNext u [] = u
+cutNext u (c ∷ cs) = cutNext (blockOf u (c .free) (c .bytes) .next) cs
+
+unfoldable pub cutTaken : TheUnit → List Block → List ℕ
+cutTaken u [] = []
+cutTaken u (c ∷ cs) = take (blockOf u (c .free) (c .bytes) .taken) (c .bytes) ++ cutTaken (blockOf u (c .free) (c .bytes) .next) cs
+
+unfoldable pub cutText : TheUnit → List Block → List ℕ
+cutText u [] = []
+cutText u (c ∷ cs) = blockOf u (c .free) (c .bytes) .out ++ cutText (blockOf u (c .free) (c .bytes) .next) cs
+
+pub block-ranged : (u : TheUnit) (free : ℕ) (s : List ℕ) → Ranged u → Ranged (blockOf u free s .next)
+block-ranged u free s h = rw (block-plain u free s h) (run-ranged s u free h)
+
+-- unit and replies are those of the taken bytes one by one, so that two ways to cut the same bytes give the same
+pub however-cut : (cs : List Block) (u : TheUnit) → Ranged u → (cutNext u cs ≡ nextBy machine u (cutTaken u cs)) × (cutText u cs ≡ textBy machine u (cutTaken u cs))
+unfolding cutNext cutTaken cutText nextBy textBy
+however-cut [] u h = (refl, refl)
+however-cut (c ∷ cs) u h =
+    let r = blockOf u (c .free) (c .bytes) in
+    let a = take (r .taken) (c .bytes) in
+    let e = block-each u (c .free) (c .bytes) h in
+    let k = however-cut cs (r .next) (block-ranged u (c .free) (c .bytes) h) in
+    let b = cutTaken (r .next) cs in (
+      k .0 ∙ ap (λ (v : TheUnit). nextBy machine v b) (e .next) ∙ sym (next-append machine a b u),
+      ap (r .out ++_) (k .1)
+          ∙ ap (λ (o : List ℕ). o ++ textBy machine (r .next) b) (e .out)
+          ∙ ap (λ (v : TheUnit). textBy machine u a ++ textBy machine v b) (e .next)
+          ∙ sym (text-append machine a b u),
+    )

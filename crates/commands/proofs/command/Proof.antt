@@ -1,6 +1,6 @@
 -- `commands::command` meets its contract. Assumes nothing.
 use borrow.Author.Needs.{needs}
-use Rattle.commands.specs.Obey.{judge}
+use Rattle.plans.specs.Obey.{judge}
 use Rattle.commands.proofs.command.Statement.{statement}
 use Rattle.commands.proofs.command.Tie as tie
 

@@ -5,7 +5,7 @@ use borrow.Author.Needs.{needs}
 use borrow.Author.Tests.{eq-eqb, ne-eqb}
 use lib.ListN.{length, take}
 use lib.Seq.{length-take-le, take-all}
-use Rattle.commands.specs.Obey.{judge, obeyOf}
+use Rattle.plans.specs.Obey.{judge, obeyOf}
 use Rattle.commands.proofs.obey.Statement.{statement}
 use Rattle.commands.proofs.obey.Tie as tie
 

@@ -1,6 +1,6 @@
 -- `commands::read` meets its contract. Assumes nothing.
 use borrow.Author.Needs.{needs}
-use Rattle.commands.specs.Obey.{judge}
+use Rattle.plans.specs.Obey.{judge}
 use Rattle.commands.proofs.read.Statement.{statement}
 use Rattle.commands.proofs.read.Tie as tie
 

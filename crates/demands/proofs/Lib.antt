@@ -1,0 +1,9 @@
+pub mod Reached
+pub mod Served
+pub mod Demand1
+pub mod Demand2
+pub mod Demand3
+pub mod Coincide
+pub mod Cheats
+pub mod Rows
+pub mod Runs

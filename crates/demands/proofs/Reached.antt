@@ -1,0 +1,79 @@
+-- The machine over events: one run after another, a block's bytes, and that a sound unit stays sound. Assumes nothing.
+use mathlib.Core.Path.{_≡_, refl, sym, ap, _∙_}
+use mathlib.Core.Bool.{true, false}
+use mathlib.Core.List.{List, [], _∷_, _++_, append-assoc}
+use Prim.Native.Nat.{ℕ}
+use Rattle.cases.specs.Pick.{pick}
+use Rattle.cases.specs.PickLaws.{split}
+use Rattle.cases.specs.Each.{nextBy, textBy}
+use Rattle.line.specs.declared.cut.Pos.{Pos}
+use Rattle.line.specs.Line.{zeros, freshPos, movedOf}
+use Rattle.state.specs.declared.Unit.{Unit as TheUnit}
+use Rattle.state.specs.Changes.{lined}
+use Rattle.state.specs.Sound.{soundOf}
+use Rattle.state.specs.SoundLaws.{sound-yes, yes-sound, new-sound, restarted-sound}
+use Rattle.weighing.specs.SampleLaws.{sampled-sound}
+use Rattle.plans.specs.Bands.{obey-sound}
+use Rattle.plans.specs.Obey.{obeyOf}
+use Rattle.wire.specs.Step.{endedUnit, movedUnit, stepNext, stepText}
+use Rattle.wire.specs.Wire.{machine}
+use Rattle.wire.specs.TurnLaws.{lined-ranged}
+use Rattle.demands.specs.Host.{New, Event, byte, sample, power, next, reply, after, replies, bytes, ends}
+
+-- ---- some events and then others
+pub after-append : (xs ys : List Event) (u : TheUnit) → after u (xs ++ ys) ≡ after (after u xs) ys
+unfolding after
+after-append [] ys u = refl
+after-append (x ∷ xs) ys u = after-append xs ys (next u x)
+
+pub replies-append : (xs ys : List Event) (u : TheUnit) → replies u (xs ++ ys) ≡ replies u xs ++ replies (after u xs) ys
+unfolding after replies
+replies-append [] ys u = refl
+replies-append (x ∷ xs) ys u = ap (reply u x ++_) (replies-append xs ys (next u x)) ∙ sym (append-assoc (reply u x) (replies (next u x) xs) (replies (after (next u x) xs) ys))
+
+-- ---- a block's bytes are events
+pub after-bytes : (s : List ℕ) (u : TheUnit) → after u (bytes s) ≡ nextBy machine u s
+unfolding after nextBy
+after-bytes [] u = refl
+after-bytes (b ∷ s) u = after-bytes s (stepNext u b)
+
+pub replies-bytes : (s : List ℕ) (u : TheUnit) → replies u (bytes s) ≡ textBy machine u s
+unfolding replies textBy
+replies-bytes [] u = refl
+replies-bytes (b ∷ s) u = ap (reply u (byte b) ++_) (replies-bytes s (stepNext u b))
+
+-- ---- a byte within a line, and one that ends it
+pub within-text : (u : TheUnit) (b : ℕ) → ends u b ≡ false → reply u (byte b) ≡ []
+unfolding stepText
+within-text u b e = simp e
+
+pub end-text : (u : TheUnit) (b : ℕ) → ends u b ≡ true → reply u (byte b) ≡ obeyOf u (u .kept) (u .pos) .text
+unfolding stepText
+end-text u b e = simp e
+
+pub end-unit : (u : TheUnit) (b : ℕ) → ends u b ≡ true → next u (byte b) ≡ endedUnit u
+unfolding stepNext
+end-unit u b e = simp e
+
+-- ---- every reached unit is sound
+lined-sound : (u : TheUnit) (kept : List ℕ) (p : Pos) → soundOf u ≡ true → soundOf (lined u kept p) ≡ true
+lined-sound u kept p e = let h = sound-yes u e in yes-sound (lined u kept p) (lined-ranged u kept p (h .0)) (h .1)
+
+step-sound : (u : TheUnit) (e : Event) → soundOf u ≡ true → soundOf (next u e) ≡ true
+unfolding stepNext
+step-sound u (byte b) h =
+    split (λ t. soundOf (pick t (endedUnit u) (movedUnit u (movedOf (u .pos) b) b)) ≡ true) (ends u b)
+    (λ _. lined-sound _ zeros freshPos (obey-sound u (u .kept) (u .pos) h)) (λ _. lined-sound u _ _ h)
+step-sound u (sample x still) h = sampled-sound u x still h
+step-sound u power h = restarted-sound u h
+
+pub sound-after : (es : List Event) (u : TheUnit) → soundOf u ≡ true → soundOf (after u es) ≡ true
+unfolding after
+sound-after [] u h = h
+sound-after (e ∷ es) u h = sound-after es (next u e) (step-sound u e h)
+
+pub sound-new : (u : TheUnit) → New u → soundOf u ≡ true
+sound-new u n = rw n new-sound
+
+pub reached : (u : TheUnit) → New u → (es : List Event) → soundOf (after u es) ≡ true
+reached u n es = sound-after es u (sound-new u n)

@@ -1,0 +1,4 @@
+pub mod Host
+pub mod Typed
+pub mod Words
+pub mod History

@@ -1,0 +1,13 @@
+-- `plans::judge::settle` meets its contract. Assumes nothing.
+use borrow.Author.Needs.{needs}
+use Rattle.plans.proofs.judge.settle.Statement.{statement}
+use Rattle.plans.proofs.judge.settle.Tie as tie
+
+pub settle-spec : {M : Type 1} → statement M
+settle-spec =
+    tie.close
+    (tie.spec
+    (λ c κs. search needs)
+    (λ c κs. search needs)
+    (λ c κs. search needs)
+    (λ c. rw (c .pick-answer .ensures, c .before .passes .ensures, c .before .before .refused .ensures)))

@@ -1,0 +1,15 @@
+pub mod Needs
+pub mod Plans
+pub mod Queries
+pub mod Obey
+pub mod Kinds
+pub mod ObeyLaws
+pub mod JudgeLaws
+pub mod Order
+pub mod WordLaws
+pub mod Refusals
+pub mod Forms
+pub mod Answers
+pub mod Keeps
+pub mod Bands
+pub mod Effects
