@@ -12,7 +12,7 @@ use Rattle.line.specs.declared.shape.Shape.the-variants as shaped
 use Rattle.reply.specs.Reply.{refusedText}
 use Rattle.state.specs.declared.Unit.{Unit as TheUnit}
 use Rattle.plans.specs.Answers.{refused-first}
-use Rattle.plans.specs.Refusals.{reason-stays}
+use Rattle.plans.specs.ReasonLaws.{reason-stays}
 use Rattle.wire.specs.declared.Taken.{Taken}
 use Rattle.demands.specs.Host.{New, Event, byte, next, reply, after, replies, bytes, ends, shape, Took, Allowed, Right}
 use Rattle.demands.specs.Words.{Refused}

@@ -10,6 +10,7 @@ pub mod WordLaws
 pub mod Refusals
 pub mod Forms
 pub mod Answers
+pub mod Effects
 pub mod Keeps
 pub mod Bands
-pub mod Effects
+pub mod ReasonLaws

@@ -14,7 +14,7 @@ use Rattle.reply.specs.Reply.{digitsText, blankText, pairText, signedText, stat
 use Rattle.state.specs.declared.Unit.{Unit as TheUnit}
 use Rattle.state.specs.Changes.{gated}
 use Rattle.weighing.specs.Reading.{steadyOf, placeNow, shownNow}
-use Rattle.plans.specs.Needs.{Shaped, Sampled}
+use Rattle.plans.specs.Needs.{Sampled}
 use Rattle.plans.specs.Plans.{Plan, plan, lacking}
 
 -- ---- MSV?

@@ -63,12 +63,18 @@ restarted-so u = record { used = refl; saved = refl; first = refl; later = refl;
 pub new-so : Restarted newUnit newUnit
 new-so = record { used = refl; saved = refl; first = refl; later = refl; point = refl; reason = refl; locked = refl; password = refl; counter = refl }
 
--- a save keeps the settings in use, and a recall keeps the saved ones
-pub kept-so : (u : TheUnit) → (keptOf u .used ≡ u .used) × (keptOf u .saved ≡ u .used)
-kept-so u = (refl, refl)
+-- a save and a recall leave password and counter
+pub record Stored (u v : TheUnit) (s t : Settings) : Type 0 where
+  pub used : v .used ≡ s
+  pub saved : v .saved ≡ t
+  pub password : v .password ≡ u .password
+  pub counter : v .counter ≡ u .counter
 
-pub recalled-so : (u : TheUnit) (s : Settings) → (recalledOf u s .used ≡ s) × (recalledOf u s .saved ≡ u .saved)
-recalled-so u s = (refl, refl)
+pub kept-so : (u : TheUnit) → Stored u (keptOf u) (u .used) (u .used)
+kept-so u = record { used = refl; saved = refl; password = refl; counter = refl }
+
+pub recalled-so : (u : TheUnit) (s : Settings) → Stored u (recalledOf u s) s (u .saved)
+recalled-so u s = record { used = refl; saved = refl; password = refl; counter = refl }
 
 -- a refusal moves no setting, zero or counter
 pub record Unmoved (u v : TheUnit) : Type 0 where

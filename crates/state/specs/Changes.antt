@@ -3,14 +3,10 @@ use Prim.Native.Nat.{ℕ, _+_, min}
 use mathlib.Core.Bool.{Bool, true, false, not, _&&_}
 use mathlib.Core.List.{List, [], _∷_}
 use lib.Dec.{ltb, eqb}
-use lib.ListN.{replicate}
 use lib.IntN.{pos}
-use Rattle.cases.specs.Pick.{pick}
 use Rattle.line.specs.declared.cut.Pos.{Pos}
 use Rattle.line.specs.Line.{zeros, freshPos}
 use Rattle.weight.specs.declared.Cell.{Cell}
-use Rattle.weight.specs.declared.Tenths.{Tenths}
-use Rattle.weight.specs.declared.Digits.{Digits}
 use Rattle.weight.specs.Weight.{asCell, asTenths, asDigits}
 use Rattle.state.specs.declared.Seen.{Seen}
 use Rattle.state.specs.declared.Seen.the-variants as seen

@@ -1,15 +1,14 @@
 -- The ranges are kept by the changes: one law for each builder. Assumes nothing.
 use mathlib.Core.Path.{_≡_, refl}
 use mathlib.Core.Bool.{Bool, true, false}
-use Prim.Native.Nat.{ℕ, _+_, _≤_, min}
+use Prim.Native.Nat.{ℕ, _+_, min}
 use native.Mathlib.Omega.{arith}
-use borrow.Author.Tests.{le-leb, leb-true}
+use borrow.Author.Tests.{le-leb}
 use lib.Dec.{leb}
-use lib.IntN.{ℤ, pos, natAbs}
+use lib.IntN.{pos}
 use Rattle.cases.specs.Tests.{allOf}
 use Rattle.cases.specs.TestsLaws.{all-yes, yes-all}
 use Rattle.whole.specs.Sets.{inside}
-use Rattle.weight.specs.declared.Curve.{Curve}
 use Rattle.weight.specs.declared.Scale.{Scale}
 use Rattle.weight.specs.Sets.{gravities, loads, nominals, steps, spans, scaleTests, scaleIn, curveTests}
 use Rattle.state.specs.declared.Setting.{Setting}

@@ -6,8 +6,7 @@ use mathlib.Core.List.{List, [], _∷_}
 use lib.Dec.{leb}
 use lib.IntN.{pos}
 use Rattle.cases.specs.Tests.{allOf}
-use Rattle.whole.specs.Sets.{Between, Sized, inside}
-use Rattle.line.specs.declared.cut.Pos.{Pos}
+use Rattle.whole.specs.Sets.{Sized, inside}
 use Rattle.weight.specs.Sets.{cells, loads, scaleIn}
 use Rattle.state.specs.declared.Seen.{Seen}
 use Rattle.state.specs.declared.Seen.the-variants as seen

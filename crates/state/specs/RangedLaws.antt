@@ -1,16 +1,12 @@
 -- What a unit within its ranges has, as facts that the arithmetic's contracts ask for. Assumes nothing.
 use mathlib.Core.Path.{_≡_}
-use mathlib.Core.Bool.{Bool, true}
-use Prim.Native.Nat.{ℕ, _≤_}
+use mathlib.Core.Bool.{true}
+use Prim.Native.Nat.{_≤_}
 use lib.IntN.{natAbs}
 use Rattle.cases.specs.TestsLaws.{all-yes, yes-all}
 use Rattle.whole.specs.SetsLaws.{sized-yes}
 use Rattle.weight.specs.Ranges.{ScaleIn}
 use Rattle.weight.specs.SetsLaws.{scale-in}
-use Rattle.state.specs.declared.Seen.{Seen}
-use Rattle.state.specs.declared.Seen.the-variants as seen
-use Rattle.state.specs.declared.Sealed.{Sealed}
-use Rattle.state.specs.declared.Free.{Free}
 use Rattle.state.specs.declared.Settings.{Settings}
 use Rattle.state.specs.declared.Zeros.{Zeros}
 use Rattle.state.specs.declared.Point.{Point}

@@ -1,6 +1,6 @@
 -- Document 01, "Commands": the value set of each setting, and the factory values. What a reader must believe. (GCA, GDE, CWT, points, NOV, RSN and tares: weight/specs/Sets.)
 use Prim.Native.Nat.{ℕ}
-use mathlib.Core.List.{List, [], _∷_}
+use mathlib.Core.List.{[], _∷_}
 use lib.IntN.{pos}
 use Rattle.whole.specs.Sets.{Range, Between, Among}
 use Rattle.weight.specs.Weight.{asCell, asDigits}

@@ -1,5 +1,4 @@
 -- The joint rules of a unit: no tare and no zero outside its band, and the saved LFT is LFT. Document 01, "Curve, zero and tare" and "Saving, password, trade mode". What a reader must believe.
-use Prim.Native.Nat.{ℕ}
 use mathlib.Core.Bool.{Bool}
 use mathlib.Core.List.{List, [], _∷_}
 use lib.Dec.{eqb}

@@ -1,9 +1,9 @@
 -- A sound unit's rules as facts, and the builders that keep them. Assumes nothing.
-use mathlib.Core.Path.{_≡_, refl, sym, _∙_}
+use mathlib.Core.Path.{_≡_, refl}
 use mathlib.Core.Bool.{Bool, true, false}
 use Prim.Native.Nat.{ℕ}
 use borrow.Author.Tests.{eqb-true, eq-eqb}
-use lib.Dec.{eqb, leb, leb·zero}
+use lib.Dec.{eqb, leb·zero}
 use lib.IntN.{pos}
 use Rattle.cases.specs.Pick.{pick}
 use Rattle.cases.specs.PickLaws.{split}
@@ -12,13 +12,11 @@ use Rattle.whole.specs.Sets.{Between, Sized, has, inside}
 use Rattle.weight.specs.Weight.{asDigits}
 use Rattle.weight.specs.Sets.{tares}
 use Rattle.weight.specs.ZeroLaws.{zero-within}
-use Rattle.state.specs.declared.Sealed.{Sealed}
-use Rattle.state.specs.declared.Free.{Free}
 use Rattle.state.specs.declared.Settings.{Settings}
 use Rattle.state.specs.declared.Zeros.{Zeros}
 use Rattle.state.specs.declared.Unit.{Unit as TheUnit}
 use Rattle.state.specs.Settings.{factoryOf}
-use Rattle.state.specs.Changes.{noZeros, grossed, newUnit, restartedOf}
+use Rattle.state.specs.Changes.{noZeros, newUnit, restartedOf}
 use Rattle.state.specs.RangedLaws.{Ranged, ranged-yes, yes-ranged}
 use Rattle.state.specs.KeepLaws.{new-ranged, restarted-keeps}
 use Rattle.state.specs.Sound.{tareIn, firstIn, laterIn, soundTests, soundOf}

@@ -1,7 +1,7 @@
 -- The weights of a ranged unit, as the arithmetic's contracts ask for them. Assumes nothing.
 use mathlib.Core.Path.{_≡_, refl}
 use mathlib.Core.Bool.{Bool, true}
-use Prim.Native.Nat.{ℕ, _+_, _*_, _≤_}
+use Prim.Native.Nat.{_≤_}
 use native.Mathlib.Omega.{arith}
 use borrow.Author.Tests.{le-leb}
 use lib.Dec.{lit≤}
@@ -9,7 +9,6 @@ use lib.IntN.{ℤ, natAbs}
 use Rattle.whole.specs.SetsLaws.{sized-yes}
 use Rattle.weight.specs.declared.Place.{Place}
 use Rattle.weight.specs.declared.Place.the-variants as place
-use Rattle.weight.specs.declared.Cell.{Cell}
 use Rattle.weight.specs.Weight.{asCell}
 use Rattle.weight.specs.Ranges.{ScaleIn, tenths-most, above-to, gross-to}
 use Rattle.weight.specs.Display.{cellPlace}

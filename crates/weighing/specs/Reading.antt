@@ -1,5 +1,4 @@
 -- What a unit reads, worked out anew from the held sample with the settings and zeros now in use. Document 01, "Weight". What a reader must believe.
-use Prim.Native.Nat.{ℕ}
 use mathlib.Core.Bool.{Bool, true, false}
 use lib.IntN.{ℤ, pos}
 use Rattle.weight.specs.declared.Cell.{Cell}
@@ -8,7 +7,6 @@ use Rattle.weight.specs.declared.Digits.{Digits}
 use Rattle.weight.specs.declared.Place.{Place}
 use Rattle.weight.specs.declared.Place.the-variants as place
 use Rattle.weight.specs.declared.Shown.{Shown}
-use Rattle.weight.specs.declared.Shown.the-variants as shown
 use Rattle.weight.specs.Weight.{asCell, tenths, aboveZeros, gross, net}
 use Rattle.weight.specs.Display.{cellPlace, placeOf, shownAt, byTas}
 use Rattle.state.specs.declared.Seen.{Seen}

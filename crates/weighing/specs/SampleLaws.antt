@@ -1,24 +1,20 @@
 -- Samples keep the ranges and the bands; and what the first zeroing and tracking do. Assumes nothing.
-use mathlib.Core.Path.{_≡_, refl}
-use mathlib.Core.Bool.{Bool, true, false, not, _&&_}
-use Prim.Native.Nat.{ℕ, _≤_}
+use mathlib.Core.Path.{_≡_}
+use mathlib.Core.Bool.{Bool, true, false}
 use borrow.Author.Tests.{le-leb}
-use lib.IntN.{ℤ, natAbs, _+ℤ_}
+use lib.IntN.{ℤ, _+ℤ_}
 use Rattle.cases.specs.Pick.{pick}
 use Rattle.cases.specs.PickLaws.{split}
 use Rattle.cases.specs.TestsLaws.{yes-all}
-use Rattle.whole.specs.Sets.{Sized, inside}
-use Rattle.weight.specs.declared.Tenths.{Tenths}
 use Rattle.weight.specs.Zero.{withinShare, laterShare, firstShare}
 use Rattle.weight.specs.ZeroLaws.{share-small, first-share-to, later-share-to, first-within, tracked-within}
 use Rattle.weight.specs.DisplayLaws.{net-and-tare}
-use Rattle.state.specs.declared.Seen.{Seen}
 use Rattle.state.specs.declared.Unit.{Unit as TheUnit}
 use Rattle.state.specs.Ranged.{zerosTests, zerosIn}
 use Rattle.state.specs.RangedLaws.{Ranged}
 use Rattle.state.specs.KeepLaws.{in-use-keeps, counter-in}
 use Rattle.state.specs.Sound.{firstIn, laterIn, soundOf}
-use Rattle.state.specs.SoundLaws.{Banded, BandedOf, sound-yes, yes-sound}
+use Rattle.state.specs.SoundLaws.{BandedOf, sound-yes, yes-sound}
 use Rattle.weighing.specs.Reading.{steadyOf, seenOf, grossNow, netNow}
 use Rattle.weighing.specs.Samples.{seeing, tries, firstNow, tracksNow, trackedNow, zerosNow, zeroing, sampleOf}
 use Rattle.weighing.specs.RangeLaws.{scale-now, seeing-ranged}

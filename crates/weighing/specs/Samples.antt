@@ -1,12 +1,10 @@
 -- What a sample does: it is seen, spent on the first zeroing, or tracked. Document 01, "Curve, zero and tare". What a reader must believe.
-use Prim.Native.Nat.{ℕ}
-use mathlib.Core.Bool.{Bool, true, false, not, _&&_}
+use mathlib.Core.Bool.{Bool, not, _&&_}
 use lib.Dec.{eqb}
 use lib.IntN.{ℤ}
 use Rattle.cases.specs.Pick.{pick}
 use Rattle.weight.specs.declared.Tenths.{Tenths}
 use Rattle.weight.specs.Zero.{firstZero, trackedValue, tracked}
-use Rattle.state.specs.declared.Seen.{Seen}
 use Rattle.state.specs.declared.Zeros.{Zeros}
 use Rattle.state.specs.declared.Unit.{Unit as TheUnit}
 use Rattle.state.specs.Changes.{sighted, zeroedOf}

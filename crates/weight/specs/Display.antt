@@ -5,14 +5,13 @@ use lib.Dec.{leb, eqb}
 use lib.IntN.{ℤ, pos, negℤ, _*ℤ_}
 use lib.Signed.{ltZ}
 use Rattle.cases.specs.Pick.{pick}
-use Rattle.weight.specs.declared.Tenths.{Tenths}
 use Rattle.weight.specs.declared.Digits.{Digits}
 use Rattle.weight.specs.declared.Figure.{Figure}
 use Rattle.weight.specs.declared.Place.{Place}
 use Rattle.weight.specs.declared.Place.the-variants.{Within, Over, Under}
 use Rattle.weight.specs.declared.Shown.{Shown}
 use Rattle.weight.specs.declared.Shown.the-variants as shown
-use Rattle.weight.specs.Weight.{gross, net}
+use Rattle.weight.specs.Weight.{net}
 
 -- above the higher of two limits, below the lower, or neither
 unfoldable pub placeBy : ℤ → ℤ → ℤ → Place

@@ -2,7 +2,7 @@
 use mathlib.Core.Bool.{Bool, _&&_}
 use Prim.Native.Nat.{ℕ, _*_}
 use lib.Dec.{leb, ltb, eqb}
-use lib.IntN.{ℤ, pos, natAbs, _+ℤ_, _-ℤ_}
+use lib.IntN.{pos, natAbs, _+ℤ_, _-ℤ_}
 use lib.Signed.{ltZ}
 use Rattle.cases.specs.Pick.{pick}
 use Rattle.weight.specs.declared.Tenths.{Tenths}

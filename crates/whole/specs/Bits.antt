@@ -4,7 +4,7 @@
 --     par (c .fits .x)      a parameter x            lit       a literal
 --     field (..)            a field of a parameter   nat n h   an unsigned number n that was cast
 --     ran (c .f .result) (c .f .ok)    what a call of f gave    p .value  at the return
-use mathlib.Core.Path.{_≡_, refl, sym, ap, subst, subst₂, _∙_}
+use mathlib.Core.Path.{_≡_, refl, sym, ap, subst, _∙_}
 use mathlib.Core.Bool.{Bool, true, false, not}
 use Prim.Native.Nat.{ℕ, zero, suc, _+_, _*_, _^_, _<_, _≤_}
 use native.Mathlib.Nat.{lt-of-le-of-lt, le-add-right, le-add-left}
@@ -12,7 +12,7 @@ use native.Mathlib.Omega.{arith}
 use borrow.Author.Tests.{lt-ltb}
 use lib.Dec.{T, ltb, ltb→lt}
 use lib.IntN.{ℤ, pos, negsuc, negℤ, natAbs, negℤ-negℤ, +ℤ-idl, _+ℤ_, _-ℤ_, _*ℤ_}
-use lib.Signed.{_<ℤ_, _≤ℤ_, mag, ltZ, leZ, nonNeg, quotZ, remZ, mag-rem, yes-nonNeg, ltZ-yes, ltZ-no, leZ-yes}
+use lib.Signed.{_<ℤ_, _≤ℤ_, mag, ltZ, leZ, nonNeg, quotZ, remZ, mag-rem, ltZ-yes, ltZ-no, leZ-yes}
 use mir.Syntax.{Width, w64}
 use mir.Val.{SFits, Fits, bits, hbits, toZ, ofZ}
 use mir.Facts.{toZ-ofZ, toZ-pos}

@@ -1,6 +1,6 @@
 -- What a number of a set has. Assumes nothing.
 use mathlib.Core.Path.{_≡_, refl, sym, subst}
-use mathlib.Core.Bool.{Bool, true, false, _&&_, _||_}
+use mathlib.Core.Bool.{Bool, true, false, _||_}
 use mathlib.Core.List.{List, [], _∷_}
 use Prim.Native.Nat.{ℕ, _≤_}
 use borrow.Author.Tests.{leb-true, eqb-true}
@@ -8,7 +8,7 @@ use lib.Dec.{leb, eqb}
 use lib.IntN.{ℤ, pos, natAbs}
 use Rattle.cases.specs.PickLaws.{not-both}
 use Rattle.cases.specs.TestsLaws.{both-yes}
-use Rattle.whole.specs.Sets.{Range, Between, Among, Sized, oneOf, among, has, inside}
+use Rattle.whole.specs.Sets.{Range, Between, Among, Sized, oneOf, has, inside}
 
 pub between-yes : (n lo hi : ℕ) → inside (Between lo hi) (pos n) ≡ true → (lo ≤ n) × (n ≤ hi)
 between-yes n lo hi e = let h = both-yes (leb lo n) (leb n hi) e in (leb-true lo n (h .0), leb-true n hi (h .1))

@@ -18,6 +18,16 @@ pub struct Taken {
     pub written: usize,
 }
 
+fn handed(u: Unit, taken: usize, written: usize) -> Taken
+    ensures { λ r. ⌜ r ≡ record { next = u; taken = taken; written = written } ⌝ }
+{
+    Taken {
+        next: u,
+        taken: taken,
+        written: written,
+    }
+}
+
 pub fn new() -> Unit
     ensures { λ r. ⌜ r ≡ newUnit ⌝ }
 {
@@ -59,11 +69,7 @@ pub fn take(u: Unit, bytes: &[u8], room: &mut [u8]) -> Taken
     if ranged::is_ranged(u) {
         return serve(u, bytes, room);
     }
-    Taken {
-        next: u,
-        taken: 0,
-        written: 0,
-    }
+    handed(u, 0, 0)
 }
 
 // Bytes are taken until they end or the free room could be too short for a reply. For each byte only the line's place moves, and the
@@ -111,9 +117,5 @@ fn serve(u: Unit, bytes: &[u8], room: &mut [u8]) -> Taken
         v.kept = [0u8; 40];
         v.pos = cut::fresh_pos();
     }
-    Taken {
-        next: v,
-        taken: i,
-        written: at,
-    }
+    handed(v, i, at)
 }

@@ -1,4 +1,5 @@
 -- `wire::serve` meets its contract. Assumes nothing.
+use mathlib.Core.Logic.{⊎-elim}
 use Prim.Native.Nat.{_-_}
 use native.Mathlib.Omega.{arith}
 use borrow.Author.Needs.{needs}
@@ -40,7 +41,6 @@ serve-spec =
     (λ c κs. search needs)
     (λ c. omega arith)
     (λ c. search (turn-ended, not-false))
+    (λ c κs. search needs)
     (λ c. omega arith)
-    (λ c. leave-end _ _ _ _ _ _ _ (c .before .loop .inv) (c .loop-test .left))
-    (λ c. omega arith)
-    (λ c. leave-full _ _ _ _ _ _ _ (c .before .before .loop .inv) (c .if1 .taken)))
+    (λ c. rw (c .handed .ensures) (⊎-elim (λ w. leave-end _ _ _ _ _ _ _ (c .before .before .loop .inv) (w .left)) (λ w. leave-full _ _ _ _ _ _ _ (c .before .before .loop .inv) (w .1 .taken)) (c .before .loop-test .came))))

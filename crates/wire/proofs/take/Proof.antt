@@ -14,4 +14,5 @@ take-spec =
     (λ c κs. search (ranged-yes, named))
     (λ c. search needs)
     (λ c. rw (yes-via _ _ (c .before .before .before .before .before .is-ranged .ensures) (c .before .before .before .before .if1 .taken)) (c .before .before .serve .ensures))
-    (λ c. rw (no-via _ _ (c .before .is-ranged .ensures) (c .if1 .left)) (refl, refl)))
+    (λ c κs. search needs)
+    (λ c. rw (c .handed .ensures, no-via _ _ (c .before .before .is-ranged .ensures) (c .before .if1 .left)) (refl, refl)))
