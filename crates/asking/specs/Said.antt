@@ -1,11 +1,7 @@
 -- What the steps of a query come to. Assumes nothing.
-use mathlib.Core.Path.{_≡_, refl}
-use mathlib.Core.Bool.{Bool, true, false}
-use mathlib.Core.List.{List}
-use Prim.Native.Nat.{ℕ}
-use lib.Dec.{eqb}
+use mathlib.Core.Path.{_≡_}
 use lib.IntN.{ℤ}
-use Rattle.cases.specs.Pick.{pick}
+use borrow.Author.Tests.{ne-eqb}
 use Rattle.reply.specs.declared.Reply.{Reply}
 use Rattle.reply.specs.declared.Shown.{Shown}
 use Rattle.reply.specs.Reply.{signedText, statusText, word4Text, word2Text, replyOf}
@@ -23,21 +19,21 @@ printed z = record { 0 = z }
 abbrev pub saidOf : TheUnit → Reply → Answer
 saidOf u q = record { unit = u; reply = q }
 
--- a reply chosen is the reply of the text chosen
-pick-reply : (b : Bool) (s t : List ℕ) → pick b (replyOf s) (replyOf t) ≡ replyOf (pick b s t)
-pick-reply true s t = refl
-pick-reply false s t = refl
+-- MSV? by the format
+module _ (u : TheUnit) where
+  pub msv-four : u .used .free .cof ≡ 0 → replyOf (word4Text (inFour (shownNow u) .0)) ≡ replyOf (msvText u)
+  unfolding msvText
+  msv-four e = rw e
 
-replies : (a b c : Bool) (w x y z : List ℕ) → pick a (replyOf w) (pick b (replyOf x) (pick c (replyOf y) (replyOf z))) ≡ replyOf (pick a w (pick b x (pick c y z)))
-replies a b c w x y z = rw (pick-reply c y z, pick-reply b x (pick c y z)) (pick-reply a w (pick b x (pick c y z)))
+  pub msv-two : u .used .free .cof ≡ 2 → replyOf (word2Text (inTwo (shownNow u) .0)) ≡ replyOf (msvText u)
+  unfolding msvText
+  msv-two e = rw e
 
-pub msv-as : (u : TheUnit) →
-    pick (eqb (u .used .free .cof) 0) (replyOf (word4Text (inFour (shownNow u) .0)))
-    (pick (eqb (u .used .free .cof) 2) (replyOf (word2Text (inTwo (shownNow u) .0)))
-    (pick (eqb (u .used .free .cof) 3) (replyOf (signedText (inDecimal (shownNow u) .0)))
-    (replyOf (statusText (inDecimal (shownNow u) .0) address (statusNow u)))))
-    ≡ replyOf (msvText u)
-unfolding msvText
-msv-as u =
-    replies (eqb (u .used .free .cof) 0) (eqb (u .used .free .cof) 2) (eqb (u .used .free .cof) 3) (word4Text (inFour (shownNow u) .0)) (word2Text (inTwo (shownNow u) .0))
-    (signedText (inDecimal (shownNow u) .0)) (statusText (inDecimal (shownNow u) .0) address (statusNow u))
+  pub msv-decimal : u .used .free .cof ≡ 3 → replyOf (signedText (inDecimal (shownNow u) .0)) ≡ replyOf (msvText u)
+  unfolding msvText
+  msv-decimal e = rw e
+
+  pub msv-status : (u .used .free .cof ≡ 0 → ⊥) → (u .used .free .cof ≡ 2 → ⊥) → (u .used .free .cof ≡ 3 → ⊥) →
+      replyOf (statusText (inDecimal (shownNow u) .0) address (statusNow u)) ≡ replyOf (msvText u)
+  unfolding msvText
+  msv-status a b c = rw (ne-eqb (u .used .free .cof) 0 a, ne-eqb (u .used .free .cof) 2 b, ne-eqb (u .used .free .cof) 3 c)

@@ -16,7 +16,6 @@ use weight::Place;
 use weight::display;
 ghost use mathlib.Core.Path.{_≡_};
 ghost use Prim.Native.Nat.{_≤_};
-ghost use Rattle.cases.specs.Pick.{pick};
 ghost use Rattle.reply.specs.Reply.{replyOf};
 ghost use Rattle.state.specs.RangedLaws.{Ranged};
 ghost use Rattle.plans.specs.Queries.{isOver, isUnder, bit, statusOf, statusNow, msvText, msvPlan, queryPlan};
@@ -97,27 +96,23 @@ fn status_now(u: Unit) -> u64
     )
 }
 
-fn pick_reply(b: bool, x: Reply, y: Reply) -> Reply
-    ensures { λ r. ⌜ r ≡ pick b x y ⌝ }
-{
-    if b { x } else { y }
-}
-
 fn msv_reply(u: Unit) -> Reply
     requires { ⌜ Ranged u ⌝ }
     ensures { λ r. ⌜ r ≡ replyOf (msvText u) ⌝ }
 {
     let s = weighing::shown_now(u);
     let n = u.used.free.cof;
+    if n == 0 {
+        return reply::word_4(from_figure(display::in_four(s)));
+    }
+    if n == 2 {
+        return reply::word_2(from_figure(display::in_two(s)));
+    }
     let f = from_figure(display::in_decimal(s));
-    let nine = reply::with_status(f, 31, status_now(u));
-    let three = pick_reply(n == 3, reply::signed(f), nine);
-    let two = pick_reply(
-        n == 2,
-        reply::word_2(from_figure(display::in_two(s))),
-        three,
-    );
-    pick_reply(n == 0, reply::word_4(from_figure(display::in_four(s))), two)
+    if n == 3 {
+        return reply::signed(f);
+    }
+    reply::with_status(f, 31, status_now(u))
 }
 
 // ---- all queries

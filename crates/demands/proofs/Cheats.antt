@@ -5,8 +5,8 @@ use mathlib.Core.List.{List, _++_}
 use Prim.Native.Nat.{ℕ}
 use Prim.Native.String.{String}
 use native.Mathlib.Omega.{arith}
-use lib.IntN.{ℤ, pos, natAbs}
-use lib.ListN.{length, getD, take, replicate}
+use lib.IntN.{ℤ, pos}
+use lib.ListN.{length, getD, take}
 use Rattle.cases.specs.Run.{Run, runOf, roomOf}
 use Rattle.whole.specs.Round.{roundNat, roundDiv}
 use Rattle.line.specs.Line.{endsOf, dropsOf, quotedOf, countedOf, movedOf, storedOf}
@@ -17,7 +17,7 @@ use Rattle.weight.specs.Display.{placeBy, highest, lowest, twoOf}
 use Rattle.weight.specs.Sets.{spans}
 use Rattle.weight.specs.Zero.{withinShare, firstZero, tracks, moved, tracked}
 use Rattle.reply.specs.Reply.{placesOf, twos, digitsText, blankText, pairText, signedText, statusText, word4Text, word2Text}
-use Rattle.weighing.specs.Reading.{vNow, grossNow, readingOf}
+use Rattle.weighing.specs.Reading.{vNow, grossNow}
 use Rattle.weighing.specs.Samples.{firstNow, trackedNow, sampleOf}
 use Rattle.plans.specs.Plans.{wordOf, sameWord}
 use Rattle.plans.specs.Queries.{statusOf, msvText}
@@ -28,30 +28,12 @@ use Rattle.state.specs.Changes.{newUnit}
 use Rattle.state.specs.RangedLaws.{Ranged, yes-ranged}
 use Rattle.state.specs.SoundLaws.{new-sound, sound-yes}
 use Rattle.weighing.specs.SampleLaws.{sampled-sound}
-use Rattle.weighing.specs.declared.Reading.{Reading}
-use Rattle.weighing.specs.declared.Reading.the-variants as reading
 use Rattle.wire.specs.declared.Taken.{Taken}
-use Rattle.wire.specs.Wire.{machine, takenOf, read}
+use Rattle.wire.specs.Wire.{machine, takenOf, blockOf}
 use Rattle.wire.specs.WireLaws.{block-plain}
-use Rattle.demands.specs.Host.{after, Took, Allowed}
+use Rattle.demands.specs.Host.{after, Took, Sampled, Allowed}
+use Rattle.demands.specs.Sent.{room, run, Back}
 use Rattle.demands.specs.Typed.{codes, typed}
-
--- a block that is sent to a new unit with this much room, and what the machine makes of it
-abbrev room : ℕ → List ℕ
-room n = replicate n 0
-
-abbrev run : String → ℕ → Run TheUnit
-run s n = runOf machine newUnit n (codes s)
-
--- the results that came back of it
-abbrev Back : String → ℕ → Taken → List ℕ → Type 0
-Back s n r m = Allowed newUnit (Took (codes s) (room n) r m)
-
-abbrev grossIn : Reading → ℕ
-grossIn reading.Nothing = 0
-grossIn (reading.Over s) = 0
-grossIn (reading.Under s) = 0
-grossIn (reading.Weight g n v s) = natAbs (g .0)
 
 abbrev Is : ℕ → ℕ → Type 0
 Is a b = a ≡ b
@@ -60,8 +42,8 @@ Is a b = a ≡ b
 record Facts : Type 0 where
   asked : roomOf (run "TAS?;" 17) (room 17) ≡ codes "1\r\n" ++ room 14
   refused : roomOf (run "TAS2;" 17) (room 17) ≡ codes "?\r\n" ++ room 14
-  empty : Is (grossIn (readingOf (sampleOf newUnit (pos 0) true))) 0
-  loaded : Is (grossIn (readingOf (sampleOf newUnit (pos 500000) true))) 1500
+  empty : roomOf (runOf machine (sampleOf newUnit (pos 0) true) 17 (codes "MSV?;")) (room 17) ≡ codes " 0000000\r\n" ++ room 7
+  loaded : roomOf (runOf machine (sampleOf newUnit (pos 500000) true) 17 (codes "MSV?;")) (room 17) ≡ codes " 0001500\r\n" ++ room 7
   switched : Is (run "TAS0;" 17 .next .used .free .tas) 0
   both : Is (run "TAS0;COF9;" 34 .next .used .free .cof) 9
   first : Is (after newUnit (typed "TAS0;") .used .free .cof) 3
@@ -81,6 +63,13 @@ new-ranged = sound-yes newUnit new-sound .0
 plainly : (s : String) (n : ℕ) (r : Taken) (m : List ℕ) → length (room n) ≡ n → Back s n r m → (r ≡ takenOf (run s n)) × (m ≡ roomOf (run s n) (room n))
 plainly s n r m e a = let p = block-plain newUnit n (codes s) new-ranged in rw (e, p) at a
 
+weighed : (x : ℤ) (u : TheUnit) (r : Taken) (m : List ℕ) → Allowed newUnit (Sampled x true u) → Allowed u (Took (codes "MSV?;") (room 17) r m) →
+    m ≡ roomOf (runOf machine (sampleOf newUnit x true) 17 (codes "MSV?;")) (room 17)
+weighed x u r m a b =
+    let s : u ≡ sampleOf newUnit x true = a ∙ rw (yes-ranged new-ranged) in
+    let h = sound-yes _ (sampled-sound newUnit x true new-sound) .0 in
+    b .1 ∙ ap (λ (v : TheUnit). roomOf (blockOf v 17 (codes "MSV?;")) (room 17)) s ∙ ap (λ (o : Run TheUnit). roomOf o (room 17)) (block-plain (sampleOf newUnit x true) 17 (codes "MSV?;") h)
+
 -- the byte of the room where they differ
 byte-at : (i : ℕ) (s t : List ℕ) → s ≡ t → Is (getD s i 0) (getD t i 0)
 byte-at i s t e = ap (λ (l : List ℕ). getD l i 0) e
@@ -97,16 +86,14 @@ done-to-all r m a h =
     let d : Is 48 63 = byte-at 0 (codes "0\r\n") (codes "?\r\n") (sym h ∙ ap (take 3) (plainly "TAS2;" 17 r m refl a .1 ∙ facts .refused)) in
     absurd (omega arith)
 
--- or shows one weight: it would after x 0 and after x 500000
-pub one-weight-for-all : (w : Reading) → read (sampleOf newUnit (pos 0) true) ≡ w → read (sampleOf newUnit (pos 500000) true) ≡ w → ⊥
-one-weight-for-all w a b =
-    let p = seeing (pos 0) a in
-    let q = seeing (pos 500000) b in
-    let d : Is 0 1500 = sym (facts .empty) ∙ ap grossIn (p ∙ sym q) ∙ facts .loaded in
+-- or shows one weight: MSV? after x 0 and after x 500000 would be replied to alike
+pub one-weight-for-all : (u v : TheUnit) (q r : Taken) (m n : List ℕ) → Allowed newUnit (Sampled (pos 0) true u) → Allowed u (Took (codes "MSV?;") (room 17) q m) →
+    Allowed newUnit (Sampled (pos 500000) true v) → Allowed v (Took (codes "MSV?;") (room 17) r n) → take 10 m ≡ take 10 n → ⊥
+one-weight-for-all u v q r m n a b c d h =
+    let e = weighed (pos 0) u q m a b in
+    let f = weighed (pos 500000) v r n c d in
+    let d : Is 48 49 = byte-at 4 (codes " 0000000\r\n") (codes " 0001500\r\n") (sym (ap (take 10) (e ∙ facts .empty)) ∙ h ∙ ap (take 10) (f ∙ facts .loaded)) in
     absurd (omega arith)
-  where
-    seeing : (x : ℤ) → read (sampleOf newUnit x true) ≡ w → readingOf (sampleOf newUnit x true) ≡ w
-    seeing x e = let h = yes-ranged (sound-yes _ (sampled-sound newUnit x true new-sound) .0) in rw h at e
 
 -- ---- one that changes nothing: it would not at TAS0
 pub changes-nothing : (r : Taken) (m : List ℕ) → Back "TAS0;" 17 r m → r .next ≡ newUnit → ⊥
@@ -127,16 +114,12 @@ first-reply-again r m a h =
     let d : Is 49 48 = byte-at 3 (codes "1\r\n1\r\n") (codes "1\r\n03\r") (sym h ∙ ap (take 6) (plainly "TAS?;COF?;" 34 r m refl a .1 ∙ facts .replied)) in
     absurd (omega arith)
 
--- ---- one whose counts are invented: with room for one reply it would say that it took both lines, or that it wrote both replies
-pub taken-invented : (r : Taken) (m : List ℕ) → Back "TAS?;TAS?;" 17 r m → r .taken ≡ 10 → ⊥
-taken-invented r m a h =
-    let d : Is 10 5 = sym h ∙ ap (λ (t : Taken). t .taken) (plainly "TAS?;TAS?;" 17 r m refl a .0) ∙ facts .taken in
-    absurd (omega arith)
+-- ---- one whose counts are invented: with room for one reply of two, 5 bytes are taken and 3 written, and no other numbers
+pub taken-invented : (r : Taken) (m : List ℕ) → Back "TAS?;TAS?;" 17 r m → (r .taken ≡ 5 → ⊥) → ⊥
+taken-invented r m a h = h (ap (λ (t : Taken). t .taken) (plainly "TAS?;TAS?;" 17 r m refl a .0) ∙ facts .taken)
 
-pub written-invented : (r : Taken) (m : List ℕ) → Back "TAS?;TAS?;" 17 r m → r .written ≡ 6 → ⊥
-written-invented r m a h =
-    let d : Is 6 3 = sym h ∙ ap (λ (t : Taken). t .written) (plainly "TAS?;TAS?;" 17 r m refl a .0) ∙ facts .written in
-    absurd (omega arith)
+pub written-invented : (r : Taken) (m : List ℕ) → Back "TAS?;TAS?;" 17 r m → (r .written ≡ 3 → ⊥) → ⊥
+written-invented r m a h = h (ap (λ (t : Taken). t .written) (plainly "TAS?;TAS?;" 17 r m refl a .0) ∙ facts .written)
 
 -- or whose counter is: after one change of the trade mode it reads 1 and no other number
 pub counter-invented : (r : Taken) (m : List ℕ) → Back "SPW\"AED\";LFT1;" 34 r m → (r .next .counter ≡ 1 → ⊥) → ⊥

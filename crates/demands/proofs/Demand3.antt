@@ -1,30 +1,30 @@
 -- Demand 3: what a restart brings back, what the counter counts, and what the seal keeps. Assumes nothing.
 use mathlib.Core.Path.{_≡_, refl, sym, ap, _∙_}
 use mathlib.Core.Bool.{true, false}
-use mathlib.Core.List.{List, [], _∷_, _++_, append-assoc}
+use mathlib.Core.List.{List, [], _∷_, _++_, append-assoc, append-nil}
 use Prim.Native.Nat.{ℕ, _+_, _<_, _≤_, min}
 use native.Mathlib.Omega.{arith}
+use lib.ListN.{take}
 use native.Mathlib.Nat.{zero-add, add-zero, add-assoc}
-use lib.Dec.{eqb}
-use borrow.Author.Tests.{eqb-true}
 use Rattle.cases.specs.Pick.{pick}
 use Rattle.cases.specs.PickLaws.{split}
 use Rattle.line.specs.declared.names.Name.the-variants as name
 use Rattle.line.specs.declared.shape.Param.the-variants as param
 use Rattle.line.specs.declared.shape.Shape.the-variants as shaped
-use Rattle.line.specs.Shape.{shapeOf}
 use Rattle.line.specs.Line.{movedOf}
 use Rattle.state.specs.declared.Settings.{Settings}
 use Rattle.state.specs.declared.Unit.{Unit as TheUnit}
 use Rattle.state.specs.Settings.{factoryOf}
 use Rattle.state.specs.Changes.{ceiling}
-use Rattle.plans.specs.Obey.{linePlan, obeyOf, judge}
+use Rattle.plans.specs.Obey.{obeyOf, judge}
+use Rattle.plans.specs.JudgeLaws.{obeyed}
 use Rattle.plans.specs.Kinds.{Kind, plain, saving, trading, kindLine}
 use Rattle.plans.specs.Effects.{Store, storeOf, Effect, keeps, alters, recalls, saves, trades, effect}
+use Rattle.wire.specs.declared.Taken.{Taken}
 use Rattle.wire.specs.Step.{stepNext, stepText, endedUnit, movedUnit}
-use Rattle.demands.specs.Host.{New, Event, byte, sample, power, next, after, ends, line, shape, Call, Restarted, handed, Calls, last, events, allEvents}
+use Rattle.demands.specs.Host.{New, Event, byte, sample, power, next, after, bytes, ends, shape, Call, Took, Restarted, handed, Calls, last, events, allEvents}
 use Rattle.demands.specs.History.{kindOf, counted, changes, remembered, lastSaved, Quiet, IsSealed}
-use Rattle.demands.proofs.Reached.{after-append, end-unit}
+use Rattle.demands.proofs.Reached.{after-append, bytes-of, end-unit}
 use Rattle.demands.proofs.Demand2.{calls-after}
 
 -- ---- each event has the effect of its kind
@@ -59,16 +59,9 @@ unfolding after
 restart-brings-last-save u n es = ap (λ (v : TheUnit). v .used) (after-append es (power ∷ []) u) ∙ saved-new u n es
 
 -- and by RES: a line of that shape, at its end mark
-shape-none : shapeOf [] ≡ shaped.Malformed
-unfolding shapeOf
-shape-none = refl
-
 res-obeyed : (v : TheUnit) → v .pos .long ≡ false → shape v ≡ shaped.Command name.Res param.Nothing → obeyOf v (v .kept) (v .pos) .next .used ≡ v .saved
-unfolding obeyOf judge
-res-obeyed v l s =
-    split (λ t. pick t (record { next = v; text = [] }) (judge v (linePlan v (line v) (v .pos .long))) .next .used ≡ v .saved) (eqb (v .pos .len) 0)
-    (λ z. let n : v .pos .len ≡ 0 = eqb-true (v .pos .len) 0 z in let c : shapeOf [] ≡ shaped.Command name.Res param.Nothing = rw n at s in let d : shaped.Malformed ≡ shaped.Command name.Res param.Nothing = sym shape-none ∙ c in cc)
-    (λ z. rw (l, s))
+unfolding judge
+res-obeyed v l s = rw (obeyed v (v .kept) (v .pos) name.Res param.Nothing l s)
 
 pub res-brings-last-save : (u : TheUnit) → New u → (es : List Event) (b : ℕ) → ends (after u es) b ≡ true → after u es .pos .long ≡ false → shape (after u es) ≡ shaped.Command name.Res param.Nothing →
     after u (es ++ (byte b ∷ [])) .used ≡ lastSaved factoryOf u es
@@ -188,6 +181,20 @@ pub calls-restart : (u : TheUnit) → New u → (cs : List Call) (v : TheUnit) �
 calls-restart u n cs v k =
     let e : v ≡ after u (allEvents cs ++ (power ∷ [])) = sym (last-of u cs (Restarted v ∷ [])) ∙ calls-after u n (cs ++ (Restarted v ∷ [])) k ∙ ap (after u) (events-of cs (Restarted v ∷ [])) in
     ap (λ (w : TheUnit). w .used) e ∙ restart-brings-last-save u n (allEvents cs)
+
+-- the same where RES ends a block that was taken whole
+pub calls-res : (u : TheUnit) → New u → (cs : List Call) (t : List ℕ) (b : ℕ) (m : List ℕ) (r : Taken) (m′ : List ℕ) → Calls u (cs ++ (Took (t ++ (b ∷ [])) m r m′ ∷ [])) → take (r .taken) (t ++ (b ∷ [])) ≡ t ++ (b ∷ []) →
+    ends (after u (allEvents cs ++ bytes t)) b ≡ true → after u (allEvents cs ++ bytes t) .pos .long ≡ false → shape (after u (allEvents cs ++ bytes t)) ≡ shaped.Command name.Res param.Nothing →
+    r .next .used ≡ lastSaved factoryOf u (allEvents cs ++ bytes t)
+calls-res u n cs t b m r m′ k w e l s =
+    let c = Took (t ++ (b ∷ [])) m r m′ in
+    let q : allEvents (cs ++ (c ∷ [])) ≡ (allEvents cs ++ bytes t) ++ (byte b ∷ []) =
+    events-of cs (c ∷ [])
+    ∙ ap (λ (x : List ℕ). allEvents cs ++ (bytes x ++ [])) w
+    ∙ ap (allEvents cs ++_) (append-nil (bytes (t ++ (b ∷ []))) ∙ bytes-of t (b ∷ []))
+    ∙ sym (append-assoc (allEvents cs) (bytes t) (byte b ∷ [])) in
+    let v : r .next ≡ after u ((allEvents cs ++ bytes t) ++ (byte b ∷ [])) = sym (last-of u cs (c ∷ [])) ∙ calls-after u n (cs ++ (c ∷ [])) k ∙ ap (after u) q in
+    ap (λ (x : TheUnit). x .used) v ∙ res-brings-last-save u n (allEvents cs ++ bytes t) b e l s
 
 pub calls-counter : (u : TheUnit) → New u → (cs : List Call) → Calls u cs → last u cs .counter ≡ min (changes u (allEvents cs)) 9999999
 calls-counter u n cs k = ap (λ (v : TheUnit). v .counter) (calls-after u n cs k) ∙ counter-counts u n (allEvents cs)

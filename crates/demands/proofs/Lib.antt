@@ -1,8 +1,10 @@
 pub mod Reached
 pub mod Served
 pub mod Demand1
+pub mod Room
 pub mod Demand2
 pub mod Demand3
+pub mod Asked
 pub mod Coincide
 pub mod Cheats
 pub mod Rows

@@ -1,80 +1,22 @@
--- Rows 1 to 12 of document 01, as one claim of the machine: bytes and samples in, replies and units out. Each side computes. Assumes nothing.
-use mathlib.Core.Path.{_≡_, refl}
-use mathlib.Core.Bool.{true}
-use mathlib.Core.List.{[], _∷_, _++_}
-use Prim.Native.String.{String}
-use lib.IntN.{ℤ, pos, negsuc}
+-- Rows 1 to 12 of document 01 hold: each side computes. Assumes nothing.
+use mathlib.Core.Path.{refl}
 use Rattle.whole.specs.Round.{roundNat, roundDiv}
 use Rattle.line.specs.Line.{endsOf, dropsOf, quotedOf, countedOf, movedOf, storedOf}
 use Rattle.line.specs.Names.{sameOf}
 use Rattle.line.specs.Shape.{allOf, isLetter, foldOf, isDigit, valueFrom, digitsOf, signedOf, numberOf, isPlain, textOf, paramOf, commandOf, shapeOf}
-use Rattle.weight.specs.declared.Cell.{Cell}
-use Rattle.weight.specs.Weight.{corrected, tenths, less, gross, net, inTenths, asCell, asTenths, asDigits}
+use Rattle.weight.specs.Weight.{corrected, tenths, less, gross, net, inTenths}
 use Rattle.weight.specs.Display.{placeBy, highest, lowest, twoOf}
 use Rattle.weight.specs.Sets.{spans}
 use Rattle.weight.specs.Zero.{withinShare, firstZero, tracks, moved, tracked}
 use Rattle.reply.specs.Reply.{placesOf, twos, digitsText, blankText, pairText, signedText, statusText, word4Text, word2Text}
-use Rattle.state.specs.declared.Unit.{Unit as TheUnit}
-use Rattle.state.specs.Changes.{newUnit}
-use Rattle.weighing.specs.Reading.{cellOf, vNow, gNow, grossNow}
+use Rattle.weighing.specs.Reading.{vNow, grossNow}
 use Rattle.weighing.specs.Samples.{firstNow, trackedNow}
 use Rattle.plans.specs.Plans.{wordOf, sameWord}
 use Rattle.plans.specs.Queries.{statusOf, msvText}
 use Rattle.plans.specs.Obey.{judge, obeyOf}
 use Rattle.wire.specs.Step.{stepNext, stepText}
-use Rattle.demands.specs.Host.{sample, after, replies}
-use Rattle.demands.specs.Typed.{codes, typed}
-
--- a new unit that was sent these commands first, and then a steady sample
-abbrev given : String → ℤ → TheUnit
-given s x = after newUnit (typed s ++ (sample x true ∷ []))
-
--- u of the held sample
-abbrev uNow : TheUnit → Cell
-uNow u = corrected (u .used .sealed .scale) (cellOf (u .seen))
-
--- what it replies
-abbrev says : TheUnit → String → String → Type 0
-says u s t = replies u (typed s) ≡ codes t
-
-pub record Rows : Type 0 where
-  -- x 500000
-  pub row-1 : says (given "" (pos 500000)) "MSV?;" " 0001500\r\n"
-  -- x 500166
-  pub row-2-v : vNow (given "" (pos 500166)) ≡ asTenths (pos 15005)
-  pub row-2 : says (given "" (pos 500166)) "MSV?;" " 0001501\r\n"
-  -- x -17
-  pub row-3-v : vNow (given "" (negsuc 16)) ≡ asTenths (negsuc 0)
-  pub row-3 : says (given "" (negsuc 16)) "MSV?;" " 0000000\r\n"
-  -- x 500000, GDE 980000
-  pub row-4-u : uNow (given "SPW\"AED\";GDE980000;" (pos 500000)) ≡ asCell (pos 500531)
-  pub row-4 : says (given "SPW\"AED\";GDE980000;" (pos 500000)) "MSV?;" " 0001502\r\n"
-  -- L 0, W 500000, C 500000, x 1000000
-  pub row-5 : says (given "SPW\"AED\";CWT500000;LDW0;LWT500000;" (pos 1000000)) "LDW?;LWT?;CWT?;MSV?;" " 0000000\r\n 0500000\r\n0500000,0500000\r\n 0003000\r\n"
-  -- RSN 5, g 24, 25, -25
-  pub row-6-g : gNow (given "SPW\"AED\";RSN5;" (pos 800)) ≡ asTenths (pos 24)
-  pub row-6 : says (given "SPW\"AED\";RSN5;" (pos 800)) "MSV?;" " 0000000\r\n"
-  pub row-6-half-g : gNow (given "SPW\"AED\";RSN5;" (pos 833)) ≡ asTenths (pos 25)
-  pub row-6-half : says (given "SPW\"AED\";RSN5;" (pos 833)) "MSV?;" " 0000005\r\n"
-  pub row-6-minus-g : gNow (given "SPW\"AED\";RSN5;" (negsuc 832)) ≡ asTenths (negsuc 24)
-  pub row-6-minus : says (given "SPW\"AED\";RSN5;" (negsuc 832)) "MSV?;" "-0000005\r\n"
-  -- LFT 1, x 1003000 and 1003333
-  pub row-7 : says (given "SPW\"AED\";LFT1;" (pos 1003000)) "MSV?;" " 0003009\r\n"
-  pub row-7-over : says (given "SPW\"AED\";LFT1;" (pos 1003333)) "MSV?;" " 9999999\r\n"
-  -- LFT 1, x -6667 and -7000
-  pub row-8 : says (given "SPW\"AED\";LFT1;" (negsuc 6666)) "MSV?;" "-0000020\r\n"
-  pub row-8-under : says (given "SPW\"AED\";LFT1;" (negsuc 6999)) "MSV?;" "-9999999\r\n"
-  -- LFT 3, x 1050000 and 1050333
-  pub row-9 : says (given "SPW\"AED\";LFT3;" (pos 1050000)) "MSV?;" " 0003150\r\n"
-  pub row-9-over : says (given "SPW\"AED\";LFT3;" (pos 1050333)) "MSV?;" " 9999999\r\n"
-  -- CDL at x 200000 and at 200020
-  pub row-10 : says (given "" (pos 200000)) "CDL;MSV?;" "0\r\n 0000000\r\n"
-  pub row-10-refused : says (given "" (pos 200020)) "CDL;ESR?;" "?\r\n07\r\n"
-  -- ta v-0 ;
-  pub row-11 : says newUnit "ta v-0 ;TAV?;" "0\r\n 0000000\r\n"
-  pub row-11-tare : after newUnit (typed "ta v-0 ;") .used .free .tare ≡ asDigits (pos 0)
-  -- lock open, LFT0 at LFT 0
-  pub row-12 : says newUnit "TCR?;SPW\"AED\";LFT0;TCR?;" "0000000\r\n0\r\n0\r\n0000000\r\n"
+use Rattle.demands.specs.Host.{after, replies}
+use Rattle.demands.specs.Rows.{Rows}
 
 pub rows : Rows
 unfolding roundNat roundDiv endsOf dropsOf quotedOf countedOf movedOf storedOf sameOf allOf isLetter foldOf isDigit valueFrom digitsOf signedOf numberOf isPlain textOf paramOf commandOf shapeOf corrected tenths less gross net inTenths placeBy highest lowest twoOf spans withinShare firstZero tracks moved tracked placesOf twos digitsText blankText pairText signedText statusText word4Text word2Text vNow grossNow firstNow trackedNow wordOf sameWord statusOf msvText judge obeyOf stepNext stepText after replies

@@ -9,9 +9,12 @@ use Rattle.cases.specs.Run.{roomOf}
 use Rattle.line.specs.declared.shape.Shape.{Shape}
 use Rattle.line.specs.Line.{movedOf}
 use Rattle.line.specs.Shape.{shapeOf}
+use Rattle.reply.specs.Reply.{ROOM}
 use Rattle.state.specs.declared.Unit.{Unit as TheUnit}
 use Rattle.state.specs.Changes.{newUnit, restartedOf}
 use Rattle.weighing.specs.Samples.{sampleOf}
+use Rattle.plans.specs.Plans.{Plan}
+use Rattle.plans.specs.Obey.{linePlan}
 use Rattle.wire.specs.declared.Taken.{Taken}
 use Rattle.wire.specs.Step.{stepNext, stepText}
 use Rattle.wire.specs.Wire.{sampled, restarted, blockOf, takenOf}
@@ -61,6 +64,10 @@ line u = take (u .pos .len) (u .kept)
 abbrev pub shape : TheUnit → Shape
 shape u = shapeOf (line u)
 
+-- what it asks for: its needs in document 01's order, what is done where they hold, and the reply then
+abbrev pub plan : TheUnit → Plan
+plan u = linePlan u (line u) (u .pos .long)
+
 -- ---- a host's calls, each with the results that came back: a block with its room before and after, a sample, a restart
 pub data Call : Type 0 where
   Took : (block room : List ℕ) → Taken → (room′ : List ℕ) → Call
@@ -107,10 +114,10 @@ pub record Right (u : TheUnit) (s m : List ℕ) (r : Taken) (m′ : List ℕ) : 
   -- all other room keeps its bytes
   pub others : drop (r .written) m′ ≡ drop (r .written) m
   pub room : length m′ ≡ length m
-  -- a byte is taken only where 17 bytes are free before it, and left only where they are not
+  -- before a byte that is taken ROOM bytes are free, and before one that is left they are not
   pub most : r .taken ≤ length s
-  pub free : (k : ℕ) → k < r .taken → 17 ≤ length m - length (replies u (bytes (take k s)))
-  pub full : r .taken < length s → length m - r .written < 17
+  pub free : (k : ℕ) → k < r .taken → ROOM ≤ length m - length (replies u (bytes (take k s)))
+  pub full : r .taken < length s → length m - r .written < ROOM
 
 abbrev pub Served : TheUnit → Call → Type 0
 Served u (Took s m r m′) = Right u s m r m′

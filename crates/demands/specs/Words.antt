@@ -1,31 +1,32 @@
--- The words of demands 1 and 2: a refused line, the one reply of a line, the one weight displayed. What a reader must believe.
+-- The words of demands 1 and 2: a line done or refused, how a byte is replied to, what a reading displays. What a reader must believe.
 use mathlib.Core.Path.{_≡_}
+use mathlib.Core.Logic.{_⊎_}
 use mathlib.Core.Bool.{true, false, not, _&&_}
-use mathlib.Core.List.{List, []}
+use mathlib.Core.List.{[]}
 use Prim.Native.Nat.{ℕ}
 use lib.Dec.{eqb}
 use lib.IntN.{_+ℤ_}
 use Rattle.line.specs.declared.names.Name.the-variants as name
-use Rattle.line.specs.declared.shape.Param.{Param}
+use Rattle.line.specs.declared.shape.Param.the-variants as param
 use Rattle.line.specs.declared.shape.Shape.the-variants as shaped
 use Rattle.line.specs.Line.{zeros, freshPos}
-use Rattle.reply.specs.Reply.{ended}
+use Rattle.reply.specs.Reply.{refusedText}
 use Rattle.weight.specs.declared.Place.the-variants as place
 use Rattle.state.specs.declared.Unit.{Unit as TheUnit}
 use Rattle.state.specs.Reasons.{numberOf}
-use Rattle.state.specs.Changes.{restartedOf}
+use Rattle.state.specs.Changes.{lined, restartedOf}
 use Rattle.weighing.specs.declared.Reading.{Reading}
 use Rattle.weighing.specs.declared.Reading.the-variants as reading
-use Rattle.weighing.specs.Reading.{steadyOf, grossNow, netNow, valueNow, placeNow}
+use Rattle.weighing.specs.Reading.{sampledOf, steadyOf, grossNow, netNow, valueNow, placeNow}
 use Rattle.plans.specs.Needs.{reasonOf}
-use Rattle.plans.specs.Obey.{linePlan, obeyOf}
-use Rattle.plans.specs.JudgeLaws.{FirstFails}
-use Rattle.demands.specs.Host.{byte, next, reply, ends, line, shape}
+use Rattle.plans.specs.Obey.{AllHold, FirstFails, obeyOf}
+use Rattle.plans.specs.Forms.{Form}
+use Rattle.demands.specs.Host.{byte, next, reply, ends, shape, plan}
 
 -- ---- a refused line, and the unit v after it
 pub record Refused (u v : TheUnit) : Type 0 where
-  -- the first of the line's needs, in document 01's order, that does not hold
-  pub first : FirstFails u (linePlan u (line u) (u .pos .long) .needs) (obeyOf u (u .kept) (u .pos))
+  -- the first of the line's needs, in their order, that does not hold
+  pub first : FirstFails u (plan u .needs) (obeyOf u (u .kept) (u .pos))
   -- its number is the reason's
   pub number : v .reason ≡ numberOf (reasonOf (first .failing))
   -- the lock closes at 11, and stands else
@@ -42,6 +43,11 @@ pub record Refused (u v : TheUnit) : Type 0 where
   pub kept : v .kept ≡ zeros
   pub pos : v .pos ≡ freshPos
 
+-- ---- the end mark of a line that kept something: it is done, with all its needs holding, or refused
+pub data Ended (u : TheUnit) (b : ℕ) : Type 0 where
+  done : AllHold (plan u .needs) → next u (byte b) ≡ lined (plan u .done) zeros freshPos → reply u (byte b) ≡ plan u .text → (reply u (byte b) ≡ refusedText → ⊥) → Ended u b
+  refused : reply u (byte b) ≡ refusedText → Refused u (next u (byte b)) → Ended u b
+
 -- ---- how a byte is replied to
 pub data Replied (u : TheUnit) (b : ℕ) : Type 0 where
   -- within a line, not at all
@@ -49,13 +55,16 @@ pub data Replied (u : TheUnit) (b : ℕ) : Type 0 where
   -- at the end of a line that kept nothing, not at all
   empty : ends u b ≡ true → u .pos .len ≡ 0 → reply u (byte b) ≡ [] → Replied u b
   -- at the end of a done RES, not at all
-  restart : ends u b ≡ true → (q : Param) → shape u ≡ shaped.Command name.Res q → next u (byte b) ≡ restartedOf u → reply u (byte b) ≡ [] → Replied u b
-  -- at the end of any other line by one reply: a text, closed by CR LF
-  one : ends u b ≡ true → (text : List ℕ) → reply u (byte b) ≡ ended text → Replied u b
+  restart : ends u b ≡ true → u .pos .long ≡ false → shape u ≡ shaped.Command name.Res param.Nothing → next u (byte b) ≡ restartedOf u → reply u (byte b) ≡ [] → Replied u b
+  -- at the end of any other line by one reply: `?`, or one of the forms that a done line's reply has
+  one : ends u b ≡ true → (u .pos .len ≡ 0 → ⊥) → (reply u (byte b) ≡ refusedText) ⊎ Form (reply u (byte b)) → Replied u b
 
--- ---- the one weight that a reading displays: over, under, or net or gross as TAS says; net and tare are gross, to the digit
+-- ---- the one thing that a reading displays: nothing where there is no sample, over, under, or a weight, net at TAS 0 and gross at TAS 1
 pub data Displayed (u : TheUnit) : Reading → Type 0 where
-  over : placeNow u ≡ place.Over → Displayed u (reading.Over (steadyOf (u .seen)))
-  under : placeNow u ≡ place.Under → Displayed u (reading.Under (steadyOf (u .seen)))
-  weight : placeNow u ≡ place.Within → netNow u .0 +ℤ u .used .free .tare .0 ≡ grossNow u .0 →
+  nothing : sampledOf (u .seen) ≡ false → Displayed u reading.Nothing
+  over : sampledOf (u .seen) ≡ true → placeNow u ≡ place.Over → Displayed u (reading.Over (steadyOf (u .seen)))
+  under : sampledOf (u .seen) ≡ true → placeNow u ≡ place.Under → Displayed u (reading.Under (steadyOf (u .seen)))
+  -- net and tare are gross, to the digit
+  weight : sampledOf (u .seen) ≡ true → placeNow u ≡ place.Within → netNow u .0 +ℤ u .used .free .tare .0 ≡ grossNow u .0 →
+      (u .used .free .tas ≡ 0 → valueNow u ≡ netNow u) → (u .used .free .tas ≡ 1 → valueNow u ≡ grossNow u) →
       Displayed u (reading.Weight (grossNow u) (netNow u) (valueNow u) (steadyOf (u .seen)))

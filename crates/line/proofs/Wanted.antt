@@ -1,4 +1,4 @@
--- A parameter taken apart by `let .. else`: what the `else` knows, as a fact of the parameter's kind. One law for each kind, for every command. Assumes nothing.
+-- What the `else` of a `let .. else` on a parameter knows, as a fact of the parameter's kind. One law for each kind, for every command. Assumes nothing.
 use mathlib.Core.Bool.{false}
 use mathlib.Core.Path.{_≡_, refl}
 use mathlib.Core.List.{[], _∷_}

@@ -19,19 +19,19 @@ zeros = replicate most 0
 abbrev pub freshPos : Pos
 freshPos = record { len = 0; quoted = false; long = false }
 
--- an end mark: LF always, ";" outside quotes
+-- an end mark: LF always, ";" outside quotes (reading 2, docs/DECISIONS.md)
 unfoldable pub endsOf : Bool → ℕ → Bool
 endsOf q b = eqb b 0x0a || (not q && eqb b 0x3b)
 
--- outside quotes the bytes 00 to 20 hex are dropped, 11 hex and 13 hex excepted (LF, the other exception, has ended the line before)
+-- blanks and control bytes, up to 20 hex, are dropped outside quotes; 11 and 13 hex are kept (reading 1, docs/DECISIONS.md), and LF has ended the line before
 unfoldable pub dropsOf : Bool → ℕ → Bool
 dropsOf q b = not q && (leb b 0x20 && (not (eqb b 0x11) && not (eqb b 0x13)))
 
--- a quote opens or closes the quotes
+-- a quote opens or closes the quotes, wherever it stands (reading 3, docs/DECISIONS.md)
 unfoldable pub quotedOf : Bool → ℕ → Bool
 quotedOf q b = pick (eqb b 0x22) (not q) q
 
--- a counted byte is kept at the line's end; where the line is full already, it is now too long
+-- a counted byte is kept at the line's end; where the line is full already, it is now too long, and quotes are followed still (reading 3, docs/DECISIONS.md)
 unfoldable pub countedOf : Pos → ℕ → Moved
 countedOf p b =
     pick (ltb (p .len) most)

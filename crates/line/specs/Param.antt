@@ -1,4 +1,4 @@
--- A parameter's kind, and what it holds: a command goes on with the one kind that it wants. Document 01, "Shapes asked for". What a reader must believe.
+-- A parameter's kind, and what it holds, for the command that wants this kind. Document 01, "Shapes asked for". What a reader must believe.
 use mathlib.Core.Bool.{Bool, true, false}
 use mathlib.Core.List.{List, []}
 use Prim.Native.Nat.{ℕ}

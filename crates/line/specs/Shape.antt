@@ -25,7 +25,7 @@ unfoldable pub allOf : (ℕ → Bool) → List ℕ → Bool
 allOf f [] = true
 allOf f (b ∷ t) = f b && allOf f t
 
--- letters: A to Z and a to z
+-- letters: A to Z and a to z (reading 4, docs/DECISIONS.md)
 unfoldable pub isLetter : ℕ → Bool
 isLetter b = (leb 0x41 b && leb b 0x5a) || (leb 0x61 b && leb b 0x7a)
 
@@ -42,7 +42,7 @@ unfoldable pub valueFrom : ℕ → List ℕ → ℕ
 valueFrom v [] = v
 valueFrom v (b ∷ t) = valueFrom (v * 10 + (b - 0x30)) t
 
--- 1 to 10 digits, leading zeros among them
+-- digits alone, at least one and at most ten, zeros in front counted (reading 4, docs/DECISIONS.md)
 abbrev pub isDigits : List ℕ → Bool
 isDigits s = leb 1 (length s) && (leb (length s) 10 && allOf isDigit s)
 
@@ -54,7 +54,7 @@ abbrev pub Small : Digits → Type 0
 Small digits.Bad = Unit
 Small (digits.Value v) = v < 10 ^ 10
 
--- a size with its sign; -0 is 0
+-- a size with its sign; 0 has none
 unfoldable pub signedOf : Bool → ℕ → ℤ
 signedOf negative n = pick negative (negℤ (pos n)) (pos n)
 
@@ -66,7 +66,7 @@ numberBy negative (digits.Value n) = reading.Is (param.Number (number (signedOf 
 unfoldable pub numberOf : Bool → List ℕ → Reading
 numberOf negative s = numberBy negative (digitsOf s)
 
--- bytes of a text: 20 to 7E without the quote
+-- what a text may hold: 20 to 7E hex, but no quote (reading 2, docs/DECISIONS.md)
 unfoldable pub isPlain : ℕ → Bool
 isPlain b = leb 0x20 b && (leb b 0x7e && not (eqb b 0x22))
 
@@ -77,7 +77,7 @@ textOf s =
     (reading.Is (param.Text 4 (length s - 1)))
     reading.Bad
 
--- after the three letters: nothing, or "?", or one parameter, a text or a number with its sign, if it has one
+-- what follows the three letters: no byte, a lone "?", a text, or a number with "-", "+" or no sign (reading 4, docs/DECISIONS.md)
 unfoldable pub paramOf : List ℕ → Reading
 paramOf t =
     pick (ltb (length t) 1) (reading.Is param.Nothing)
@@ -100,7 +100,7 @@ unfoldable pub commandOf : Letters → Reading → Shape
 commandOf n reading.Bad = shape.Malformed
 commandOf n (reading.Is p) = knownOf (calledOf n) p
 
--- a line: three letters of either case, then what follows them
+-- a line: three letters, upper or lower case, and what follows them
 unfoldable pub shapeOf : List ℕ → Shape
 shapeOf s =
     pick (ltb (length s) 3) shape.Malformed

@@ -3,7 +3,7 @@
 ghost use mathlib.Core.Path.{_≡_};
 ghost use Rattle.line.specs.Line.{freshPos, endsOf, dropsOf, quotedOf, countedOf, movedOf};
 
-// A line holds at most this many bytes.
+// How many bytes there is room for in a line.
 pub const MOST: usize = 40;
 
 // How many bytes are kept, whether a quote is open, whether the line is too long.

@@ -1,4 +1,4 @@
-// The names: three letters, folded, compared with fixed byte strings.
+// The names: three folded letters, each name a fixed byte string.
 ghost use mathlib.Core.Path.{_≡_};
 ghost use lib.ListN.{drop};
 ghost use Rattle.line.specs.Names.{sameOf, lookOf, calledOf, names};

@@ -1,4 +1,4 @@
-// A kept line to its shape: three letters, then nothing, a query, a number or a text.
+// A kept line to its shape: three letters and a parameter of one of four kinds.
 use crate::cut::MOST;
 use crate::names::Called;
 use crate::names::Letters;

@@ -1,5 +1,5 @@
 -- A line is done exactly where its reply is not `?`. Assumes nothing.
-use mathlib.Core.Path.{_≡_, refl, sym, ap, _∙_}
+use mathlib.Core.Path.{_≡_, refl, sym, ap, subst, _∙_}
 use mathlib.Core.Logic.{_⊎_, inl, inr, ⊎-elim}
 use mathlib.Core.Bool.{Bool, true, false}
 use mathlib.Core.List.{List, [], _∷_}
@@ -10,7 +10,7 @@ use lib.Dec.{eqb, lit<}
 use lib.IntN.{ℤ, pos, negsuc}
 use lib.ListN.{length, getD, take, length-append}
 use lib.Seq.{ext-getD}
-use borrow.Author.Tests.{eqb-true}
+use borrow.Author.Tests.{eqb-true, eqb-false}
 use Rattle.cases.specs.TestsLaws.{all-yes}
 use Rattle.cases.specs.Pick.{pick}
 use Rattle.cases.specs.PickLaws.{split, never}
@@ -18,9 +18,10 @@ use Rattle.line.specs.declared.cut.Pos.{Pos}
 use Rattle.line.specs.declared.names.Name.{Name}
 use Rattle.line.specs.declared.names.Name.the-variants as name
 use Rattle.line.specs.declared.shape.Param.{Param}
+use Rattle.line.specs.declared.shape.Param.the-variants as param
 use Rattle.line.specs.declared.shape.Shape.{Shape}
 use Rattle.line.specs.declared.shape.Shape.the-variants as shape
-use Rattle.line.specs.Param.{isQuery}
+use Rattle.line.specs.Param.{isQuery, isNothing}
 use Rattle.line.specs.Shape.{shapeOf}
 use Rattle.reply.specs.Reply.{placesOf, digitsOf, wordOf, crlf, refusedText, doneText, digitsText, blankText, pairText, signedText, statusText, word4Text, word2Text}
 use Rattle.reply.specs.ReadLaws.{length-digits, length-places}
@@ -30,9 +31,9 @@ use Rattle.plans.specs.Needs.{Fits}
 use Rattle.plans.specs.Plans.{commandPlan}
 use Rattle.plans.specs.Queries.{queryPlan}
 use Rattle.plans.specs.Kinds.{refusalTests, isRefusal}
-use Rattle.plans.specs.Obey.{Outcome, judge, refusing, shapePlan, linePlan, obeyOf}
+use Rattle.plans.specs.Obey.{Outcome, judge, refusing, shapePlan, linePlan, obeyOf, AllHold, doneOf, FirstFails}
 use Rattle.plans.specs.Forms.{Form, done, digits-1, digits-2, digits-7, blank, signed, status, pair, word-4, word-2, query-form, command-by, Closed, form-closed}
-use Rattle.plans.specs.JudgeLaws.{AllHold, doneOf, FirstFails, why, served-by, every-line}
+use Rattle.plans.specs.JudgeLaws.{why, judged, shaped-by, every-line}
 use Rattle.plans.specs.Refusals.{Refused}
 
 -- a text that is not `?` CR LF
@@ -153,23 +154,38 @@ refused-first u kept p =
     (λ _ e. absurd (nothing-other e))
     (λ _ e. ⊎-elim (λ h. absurd (done-other u s (p .long) (h .0) (sym (ap (λ (o : Outcome). o .text) (h .1)) ∙ e))) (λ w. w) (why u l))
 
--- how a line is answered: not at all where it kept nothing or is a done RES, else by one reply
-pub data Answered (u : TheUnit) (len : ℕ) (x : Shape) (o : Outcome) : Type 0 where
-  empty : len ≡ 0 → o .text ≡ [] → Answered u len x o
-  restart : (q : Param) → x ≡ shape.Command name.Res q → o .next ≡ restartedOf u → o .text ≡ [] → Answered u len x o
-  one : Closed (o .text) → Answered u len x o
+-- how a line is answered: not at all where it kept nothing or is a done RES, else by `?` or by one reply of a known form
+pub data Answered (u : TheUnit) (p : Pos) (x : Shape) (o : Outcome) : Type 0 where
+  empty : p .len ≡ 0 → o .text ≡ [] → Answered u p x o
+  restart : p .long ≡ false → x ≡ shape.Command name.Res param.Nothing → o .next ≡ restartedOf u → o .text ≡ [] → Answered u p x o
+  one : (p .len ≡ 0 → ⊥) → (o .text ≡ refusedText) ⊎ Form (o .text) → Answered u p x o
 
-pub answered : (u : TheUnit) (kept : List ℕ) (p : Pos) → Answered u (p .len) (shapeOf (take (p .len) kept)) (obeyOf u kept p)
+nothing-is : (q : Param) → isNothing q ≡ true → q ≡ param.Nothing
+nothing-is param.Nothing e = refl
+nothing-is param.Query e = absurd (never (sym e))
+nothing-is (param.Number x) e = absurd (never (sym e))
+nothing-is (param.Text a k) e = absurd (never (sym e))
+
+-- of a command whose needs hold
+done-answered : (u : TheUnit) (p : Pos) → p .long ≡ false → (p .len ≡ 0 → ⊥) → (s : List ℕ) (n : Name) (q : Param) → AllHold (commandPlan u s n q .needs) →
+    Answered u p (shape.Command n q) (doneOf (commandPlan u s n q))
+done-answered u p l d s n q h =
+    ⊎-elim
+    (λ z. let e : q ≡ param.Nothing = nothing-is q (res-needs n (z .0) h) in
+    restart l (ap (λ (m : Name). shape.Command m q) (z .0) ∙ ap (shape.Command name.Res) e) (ap (λ (m : Name). commandPlan u s m q .done) (z .0)) (z .1))
+    (λ c. one d (inr c))
+    (command-by (λ m t. ((m ≡ name.Res) × (t ≡ [])) ⊎ Form t) (inl (refl, refl)) (λ _. inr done) u s n q)
+  where
+    res-needs : (m : Name) → m ≡ name.Res → AllHold (commandPlan u s m q .needs) → isNothing q ≡ true
+    res-needs m z k = subst (λ (m : Name). AllHold (commandPlan u s m q .needs)) z k .0
+
+pub answered : (u : TheUnit) (kept : List ℕ) (p : Pos) → Answered u p (shapeOf (take (p .len) kept)) (obeyOf u kept p)
 unfolding obeyOf
 answered u kept p =
     let s = take (p .len) kept in
-    split (λ b. Answered u (p .len) (shapeOf s) (pick b (record { next = u; text = [] }) (judge u (linePlan u s (p .long))))) (eqb (p .len) 0)
+    split (λ b. Answered u p (shapeOf s) (pick b (record { next = u; text = [] }) (judge u (linePlan u s (p .long))))) (eqb (p .len) 0)
     (λ e. empty (eqb-true (p .len) 0 e) refl)
-    (λ _. served-by (Answered u (p .len)) u (λ x n. one (record { text = 63 ∷ []; is = refl })) (λ n q e h. one (form-closed _ (query-form u n))) done-answered s (p .long))
-  where
-    done-answered : (s : List ℕ) (n : Name) (q : Param) → isQuery q ≡ false → AllHold (commandPlan u s n q .needs) → Answered u (p .len) (shape.Command n q) (doneOf (commandPlan u s n q))
-    done-answered s n q e h =
-        ⊎-elim
-        (λ z. restart q (ap (λ (m : Name). shape.Command m q) (z .0)) (ap (λ (m : Name). commandPlan u s m q .done) (z .0)) (z .1))
-        (λ c. one c)
-        (command-by (λ m t. ((m ≡ name.Res) × (t ≡ [])) ⊎ Closed t) (inl (refl, refl)) (λ _. inr (record { text = 48 ∷ []; is = refl })) u s n q)
+    (λ e. let d = eqb-false (p .len) 0 e in
+    split (λ b. p .long ≡ b → Answered u p (shapeOf s) (judge u (pick b (refusing u (Fits false)) (shapePlan u s (shapeOf s))))) (p .long)
+    (λ _ l. judged (Answered u p (shapeOf s)) u (refusing u (Fits false)) (λ n. one d (inl refl)) (λ h. absurd (never (sym (h .0)))))
+    (λ _ l. shaped-by (Answered u p) u (λ x n. one d (inl refl)) (λ n q f h. one d (inr (query-form u n))) (λ t n q f h. done-answered u p l d t n q h) s (shapeOf s)) refl)

@@ -15,11 +15,11 @@ use Rattle.weight.specs.declared.Digits.{Digits}
 use Rattle.state.specs.declared.Unit.{Unit as TheUnit}
 use Rattle.state.specs.Settings.{factoryOf}
 use Rattle.state.specs.Changes.{keptOf, recalledOf, tradedOf}
-use Rattle.state.specs.Sound.{tareIn, soundOf}
-use Rattle.state.specs.SoundLaws.{Banded, BandedOf, sound-yes, yes-sound, zero-tare, reset-banded, recalled-banded, restarted-banded}
+use Rattle.state.specs.Sound.{tareIn, soundOf, Banded, BandedOf}
+use Rattle.state.specs.SoundLaws.{sound-yes, yes-sound, zero-tare, reset-banded, recalled-banded, restarted-banded}
 use Rattle.plans.specs.Plans.{size, commandPlan}
-use Rattle.plans.specs.Obey.{Outcome, obeyOf}
-use Rattle.plans.specs.JudgeLaws.{AllHold, every-line, query-by}
+use Rattle.plans.specs.Obey.{Outcome, obeyOf, AllHold}
+use Rattle.plans.specs.JudgeLaws.{every-line, query-by}
 use Rattle.plans.specs.Keeps.{obey-ranged}
 
 module _ (u : TheUnit) (b : BandedOf u) where

@@ -22,8 +22,8 @@ use Rattle.state.specs.Settings.{factoryOf}
 use Rattle.state.specs.Changes.{ceiling, keptOf, recalledOf, tradedOf}
 use Rattle.plans.specs.Plans.{size, commandPlan, lwtPlan}
 use Rattle.plans.specs.Kinds.{Kind, plain, saving, trading, kindDone, isRefusal, kindLine}
-use Rattle.plans.specs.Obey.{Outcome, obeyOf}
-use Rattle.plans.specs.JudgeLaws.{AllHold, line-by, query-by}
+use Rattle.plans.specs.Obey.{Outcome, obeyOf, AllHold}
+use Rattle.plans.specs.JudgeLaws.{line-by, query-by}
 use Rattle.plans.specs.Answers.{query-other, command-other, other-not}
 
 -- the settings in use, the saved ones and the counter of a unit

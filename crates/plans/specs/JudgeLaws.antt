@@ -1,11 +1,11 @@
 -- Laws of a command's needs, for every list of them: which refusal a line meets, or that it is done; and what holds of it either way. Assumes nothing.
-use mathlib.Core.Path.{_≡_, refl, sym, ap}
+use mathlib.Core.Path.{_≡_, refl, sym, ap, _∙_}
 use mathlib.Core.Bool.{Bool, true, false}
 use mathlib.Core.Logic.{_⊎_, inl, inr}
 use mathlib.Core.List.{List, [], _∷_, _++_}
 use Prim.Native.Nat.{ℕ}
 use Rattle.cases.specs.Pick.{pick}
-use borrow.Author.Tests.{eqb-true}
+use borrow.Author.Tests.{eqb-true, ne-eqb}
 use lib.Dec.{eqb}
 use lib.ListN.{take}
 use Rattle.cases.specs.PickLaws.{split, never}
@@ -23,11 +23,7 @@ use Rattle.state.specs.Changes.{gated}
 use Rattle.plans.specs.Needs.{Need, Fits, Shaped, Known, Opened, Unsealed, In, Same, Steady, Sampled, Held, Shows, Tares, Share, Below, Spans, Unless, holdsOf, reasonOf, firstFailed}
 use Rattle.plans.specs.Plans.{Plan, commandPlan}
 use Rattle.plans.specs.Queries.{queryPlan}
-use Rattle.plans.specs.Obey.{Outcome, refusedOf, settledOf, judge, refusing, shapePlan, linePlan, obeyOf}
-
-abbrev pub AllHold : List Need → Type 0
-AllHold [] = Unit {0}
-AllHold (n ∷ ns) = (holdsOf n ≡ true) × AllHold ns
+use Rattle.plans.specs.Obey.{AllHold, doneOf, FirstFails, Why, Outcome, refusedOf, settledOf, judge, refusing, servedPlan, shapePlan, linePlan, obeyOf}
 
 -- no need's reason passes
 pub bars : (n : Need) → passesOf (reasonOf n) ≡ false
@@ -47,22 +43,6 @@ bars (Share z p nov) = refl
 bars (Below n top) = refl
 bars (Spans k) = refl
 bars (Unless b n) = bars n
-
-abbrev pub doneOf : Plan → Outcome
-doneOf p = record { next = p .done; text = p .text }
-
--- the first need that fails, and all ahead of it hold
-pub record FirstFails (u : TheUnit) (ns : List Need) (o : Outcome) : Type 0 where
-  pub before : List Need
-  pub failing : Need
-  pub after : List Need
-  pub all : ns ≡ before ++ (failing ∷ after)
-  pub hold : AllHold before
-  pub fails : holdsOf failing ≡ false
-  pub outcome : o ≡ refusedOf u (reasonOf failing)
-
-abbrev pub Why : TheUnit → List Need → Outcome → Outcome → Type 0
-Why u ns d o = (AllHold ns × (o ≡ d)) ⊎ FirstFails u ns o
 
 further : {u : TheUnit} {d o : Outcome} {n : Need} {ns : List Need} → holdsOf n ≡ true → Why u ns d o → Why u (n ∷ ns) d o
 further h (inl p) = inl ((h, p .0), p .1)
@@ -84,7 +64,15 @@ why-settled u p (n ∷ ns) =
     (λ h e. further h (why-settled u p ns))
     (λ h e. inr (record { before = []; failing = n; after = ns; all = refl; hold = tt; fails = h; outcome = rw (bars n) })) refl
 
--- a judged line is done with all needs holding, or refused by the first that fails
+-- where all needs hold the plan is done
+all-pass : (u : TheUnit) (p : Plan) (ns : List Need) → AllHold ns → settledOf u p (firstFailed ns) ≡ doneOf p
+all-pass u p [] h = refl
+all-pass u p (n ∷ ns) h = rw (h .0) (all-pass u p ns (h .1))
+
+pub all-done : (u : TheUnit) (p : Plan) → AllHold (p .needs) → judge u p ≡ doneOf p
+unfolding judge
+all-done u p h = all-pass u p (p .needs) h
+
 pub why : (u : TheUnit) (p : Plan) → Why u (p .needs) (doneOf p) (judge u p)
 unfolding judge
 why u p = why-settled u p (p .needs)
@@ -105,7 +93,7 @@ module _ (P : Shape → Outcome → Type 0) (u : TheUnit)
     (refusal : (x : Shape) (n : Need) → P x (refusedOf u (reasonOf n)))
     (query : (n : Name) (q : Param) → isQuery q ≡ true → AllHold (queryPlan u n .needs) → P (shape.Command n q) (doneOf (queryPlan u n)))
     (command : (s : List ℕ) (n : Name) (q : Param) → isQuery q ≡ false → AllHold (commandPlan u s n q .needs) → P (shape.Command n q) (doneOf (commandPlan u s n q))) where
-  shaped-by : (s : List ℕ) (x : Shape) → P x (judge u (shapePlan u s x))
+  pub shaped-by : (s : List ℕ) (x : Shape) → P x (judge u (shapePlan u s x))
   shaped-by s shape.Malformed = judged (P shape.Malformed) u (refusing u (Shaped false)) (refusal shape.Malformed) (λ h. absurd (never (sym (h .0))))
   shaped-by s shape.Unknown = judged (P shape.Unknown) u (refusing u (Known false)) (refusal shape.Unknown) (λ h. absurd (never (sym (h .0))))
   shaped-by s (shape.Command n q) =
@@ -127,6 +115,32 @@ module _ (P : Shape → Outcome → Type 0) (u : TheUnit)
       split (λ b. P (shapeOf (take (p .len) kept)) (pick b (record { next = u; text = [] }) (judge u (linePlan u (take (p .len) kept) (p .long))))) (eqb (p .len) 0)
       (λ e. let z : p .len ≡ 0 = eqb-true (p .len) 0 e in rw z quiet)
       (λ _. served-by (take (p .len) kept) (p .long))
+
+-- a line that is not too long and has a shape is judged by that shape's plan
+shape-none : shapeOf [] ≡ shape.Malformed
+unfolding shapeOf
+shape-none = refl
+
+not-empty : (kept : List ℕ) (p : Pos) (n : Name) (q : Param) → shapeOf (take (p .len) kept) ≡ shape.Command n q → eqb (p .len) 0 ≡ true → ⊥
+not-empty kept p n q s z =
+    let l : p .len ≡ 0 = eqb-true (p .len) 0 z in
+    let c : shapeOf [] ≡ shape.Command n q = rw l at s in
+    let d : shape.Malformed ≡ shape.Command n q = sym shape-none ∙ c in
+    let e : true ≡ false = cc in
+    never e
+
+pub obeyed : (u : TheUnit) (kept : List ℕ) (p : Pos) (n : Name) (q : Param) → p .long ≡ false → shapeOf (take (p .len) kept) ≡ shape.Command n q →
+    obeyOf u kept p ≡ judge u (servedPlan u (take (p .len) kept) n q)
+unfolding obeyOf
+obeyed u kept p n q l s =
+    let t = take (p .len) kept in
+    split (λ b. pick b (record { next = u; text = [] }) (judge u (linePlan u t (p .long))) ≡ judge u (servedPlan u t n q)) (eqb (p .len) 0)
+    (λ z. absurd (not-empty kept p n q s z)) (λ z. rw (l, s))
+
+-- a line that kept something, by its plan
+pub judged-line : (u : TheUnit) (kept : List ℕ) (p : Pos) → (p .len ≡ 0 → ⊥) → obeyOf u kept p ≡ judge u (linePlan u (take (p .len) kept) (p .long))
+unfolding obeyOf
+judged-line u kept p h = rw (ne-eqb (p .len) 0 h)
 
 -- the same of the outcome alone
 module _ (P : Outcome → Type 0) where

@@ -44,8 +44,8 @@ use Rattle.weighing.specs.Reading.{cellOf, grossNow}
 use Rattle.weighing.specs.RangeLaws.{scale-now, cell-now}
 use Rattle.plans.specs.Needs.{reasonOf}
 use Rattle.plans.specs.Plans.{size, pointGiven, curveGiven, gcaGiven, clearedNow, wordOf, commandPlan, settingPlan, lwtPlan}
-use Rattle.plans.specs.Obey.{Outcome, obeyOf}
-use Rattle.plans.specs.JudgeLaws.{AllHold, every-line, query-by}
+use Rattle.plans.specs.Obey.{Outcome, obeyOf, AllHold}
+use Rattle.plans.specs.JudgeLaws.{every-line, query-by}
 
 module _ (u : TheUnit) (h : Ranged u) where
   sealed-now : sealedIn (u .used .sealed) ≡ true

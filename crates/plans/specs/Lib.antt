@@ -7,6 +7,7 @@ pub mod ObeyLaws
 pub mod JudgeLaws
 pub mod Order
 pub mod WordLaws
+pub mod LockLaws
 pub mod Refusals
 pub mod Forms
 pub mod Answers

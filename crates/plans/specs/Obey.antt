@@ -1,7 +1,9 @@
 -- A line is judged: the first need that does not hold refuses it, else it is done. Document 01, "Command lines" and "Reasons for "?"". What a reader must believe.
 use Prim.Native.Nat.{ℕ}
-use mathlib.Core.Bool.{Bool, false}
-use mathlib.Core.List.{List, [], _∷_}
+use mathlib.Core.Path.{_≡_}
+use mathlib.Core.Logic.{_⊎_}
+use mathlib.Core.Bool.{Bool, true, false}
+use mathlib.Core.List.{List, [], _∷_, _++_}
 use lib.Dec.{eqb}
 use lib.ListN.{take}
 use Rattle.cases.specs.Pick.{pick}
@@ -18,7 +20,7 @@ use Rattle.state.specs.declared.Unit.{Unit as TheUnit}
 use Rattle.state.specs.Reasons.{passesOf}
 use Rattle.state.specs.Changes.{refusedUnit}
 use Rattle.plans.specs.declared.Answer.{Answer}
-use Rattle.plans.specs.Needs.{Need, Fits, Shaped, Known, firstFailed}
+use Rattle.plans.specs.Needs.{Need, Fits, Shaped, Known, holdsOf, reasonOf, firstFailed}
 use Rattle.plans.specs.Plans.{Plan, plan, commandPlan}
 use Rattle.plans.specs.Queries.{queryPlan}
 
@@ -52,12 +54,36 @@ shapePlan u s (shape.Command n p) = servedPlan u s n p
 abbrev pub linePlan : TheUnit → List ℕ → Bool → Plan
 linePlan u s long = pick long (refusing u (Fits false)) (shapePlan u s (shapeOf s))
 
--- a line that kept nothing gives no reply
+-- a line with no kept byte is not answered
 abbrev pub lineOutcome : TheUnit → List ℕ → Pos → Outcome
 lineOutcome u kept p = pick (eqb (p .len) 0) (record { next = u; text = [] }) (judge u (linePlan u (take (p .len) kept) (p .long)))
 
 unfoldable pub obeyOf : TheUnit → List ℕ → Pos → Outcome
 obeyOf u kept p = lineOutcome u kept p
+
+-- ---- done or refused
+-- all needs hold
+abbrev pub AllHold : List Need → Type 0
+AllHold [] = Unit {0}
+AllHold (n ∷ ns) = (holdsOf n ≡ true) × AllHold ns
+
+-- what a plan does where they hold
+abbrev pub doneOf : Plan → Outcome
+doneOf p = record { next = p .done; text = p .text }
+
+-- the first need that fails, and all ahead of it hold; its reason refuses the line
+pub record FirstFails (u : TheUnit) (ns : List Need) (o : Outcome) : Type 0 where
+  pub before : List Need
+  pub failing : Need
+  pub after : List Need
+  pub all : ns ≡ before ++ (failing ∷ after)
+  pub hold : AllHold before
+  pub fails : holdsOf failing ≡ false
+  pub outcome : o ≡ refusedOf u (reasonOf failing)
+
+-- a line is done with all needs holding, or refused by the first that fails
+abbrev pub Why : TheUnit → List Need → Outcome → Outcome → Type 0
+Why u ns d o = (AllHold ns × (o ≡ d)) ⊎ FirstFails u ns o
 
 -- an outcome as the code hands it on
 abbrev pub answerOf : Outcome → Answer

@@ -70,22 +70,14 @@ pub fn refused(u: Unit, why: Reason) -> Answer
     }
 }
 
-fn pick_answer(b: bool, x: Answer, y: Answer) -> Answer
-    ensures { λ r. ⌜ r ≡ pick b x y ⌝ }
-{
-    if b { x } else { y }
-}
-
 pub fn settle(u: Unit, done: Unit, q: Reply, why: Reason) -> Answer
     ensures { λ r. ⌜ r ≡ settledAs u done q why ⌝ }
 {
-    let no = refused(u, why);
-    pick_answer(
-        reasons::passes(why),
-        Answer {
+    if reasons::passes(why) {
+        return Answer {
             unit: done,
             reply: q,
-        },
-        no,
-    )
+        };
+    }
+    refused(u, why)
 }

@@ -39,14 +39,14 @@ signOf (negsuc _) = 45
 abbrev pub signedOf : ℤ → List ℕ
 signedOf z = signOf z ∷ digitsOf 7 (natAbs z)
 
--- ---- replies: each ends CR LF
+-- ---- replies, with CR LF behind each, those of bytes too (reading 15, docs/DECISIONS.md)
 abbrev pub crlf : List ℕ
 crlf = 13 ∷ 10 ∷ []
 
 abbrev pub ended : List ℕ → List ℕ
 ended s = s ++ crlf
 
--- a done command replies `0`, a refused one `?`
+-- `0` says that a command was done, `?` that it was refused
 abbrev pub doneText : List ℕ
 doneText = ended (48 ∷ [])
 
@@ -61,7 +61,7 @@ digitsText w n = ended (digitsOf w n)
 unfoldable pub blankText : ℕ → List ℕ
 blankText n = ended (32 ∷ digitsOf 6 n)
 
--- CWT?: the waiting one and the used one, 7 digits each, a comma between
+-- CWT?: the waiting one and the used one, 7 digits each, parted by a comma
 unfoldable pub pairText : ℕ → ℕ → List ℕ
 pairText waiting used = ended (digitsOf 7 waiting ++ 44 ∷ digitsOf 7 used)
 
@@ -69,11 +69,11 @@ pairText waiting used = ended (digitsOf 7 waiting ++ 44 ∷ digitsOf 7 used)
 unfoldable pub signedText : ℤ → List ℕ
 signedText z = ended (signedOf z)
 
--- COF9: the same, the address (2 digits) between commas, three digits of status
+-- COF9: sign and digits, then the address (2 digits) between commas, then the status (3 digits)
 unfoldable pub statusText : ℤ → ℕ → ℕ → List ℕ
 statusText z address status = ended (signedOf z ++ 44 ∷ digitsOf 2 address ++ 44 ∷ digitsOf 3 status)
 
--- COF0: four bytes, COF2: two
+-- 4 bytes at COF0, 2 at COF2
 unfoldable pub word4Text : ℤ → List ℕ
 word4Text z = ended (wordOf 4 z)
 

@@ -23,7 +23,7 @@ pub record Worked : Type 0 where
   pub weight : signedText (pos 1501) ≡ 32 ∷ 48 ∷ 48 ∷ 48 ∷ 49 ∷ 53 ∷ 48 ∷ 49 ∷ 13 ∷ 10 ∷ []
   -- `-0000020`
   pub minus : signedText (negsuc 19) ≡ 45 ∷ 48 ∷ 48 ∷ 48 ∷ 48 ∷ 48 ∷ 50 ∷ 48 ∷ 13 ∷ 10 ∷ []
-  -- ` 0000000`: zero takes a blank
+  -- ` 0000000`: 0 has no minus
   pub none : signedText (pos 0) ≡ 32 ∷ 48 ∷ 48 ∷ 48 ∷ 48 ∷ 48 ∷ 48 ∷ 48 ∷ 13 ∷ 10 ∷ []
   -- ` 9999999`
   pub over : signedText (pos 9999999) ≡ 32 ∷ 57 ∷ 57 ∷ 57 ∷ 57 ∷ 57 ∷ 57 ∷ 57 ∷ 13 ∷ 10 ∷ []

@@ -1,4 +1,4 @@
-// Values to the bytes of a reply, and the writer that is lent a part of the reply room.
+// Values to the bytes of a reply, and the writer, which is lent the room from some place on.
 ghost use mathlib.Core.Path.{_≡_};
 ghost use mathlib.Core.List.{[], _∷_};
 ghost use Prim.Native.Nat.{_+_, _%_};

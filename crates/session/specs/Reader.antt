@@ -13,14 +13,14 @@ use Rattle.session.specs.declared.Event.the-variants as event
 use Rattle.session.specs.Form.{isDigit, signedOf, sampleOf}
 
 abbrev pub decimal : Bool → ℕ → Decimal
-decimal negative size = record { negative = negative; size = size }
+decimal negative size = record { minus = pick negative 1 0; size = size }
 
 -- one digit more; a size beyond every x stays as it is, however many digits follow
 unfoldable pub grownOf : ℕ → ℕ → ℕ
 grownOf size digit = pick (ltb 2147483648 size) size (size * 10 + digit)
 
 unfoldable pub digitOf : Decimal → ℕ → State
-digitOf d b = pick (isDigit b) (state.Digits (decimal (d .negative) (grownOf (d .size) (b - 0x30)))) state.Hopeless
+digitOf d b = pick (isDigit b) (state.Digits (record { minus = d .minus; size = grownOf (d .size) (b - 0x30) })) state.Hopeless
 
 abbrev pub onOf : ℕ → ℕ → State → State
 onOf b want then = pick (eqb b want) then state.Hopeless
@@ -77,7 +77,7 @@ endedOf state.X = event.None
 endedOf state.Minus = event.None
 endedOf (state.Digits d) = event.None
 endedOf (state.Blank d) = event.None
-endedOf (state.Flag d f) = sampleOf (signedOf (d .negative) (d .size)) f
+endedOf (state.Flag d f) = sampleOf (signedOf (eqb (d .minus) 1) (d .size)) f
 endedOf state.R = event.Restart
 endedOf state.Hopeless = event.None
 

@@ -80,13 +80,18 @@ flag-last : (d : Decimal) (a b : ℕ) → nextOf (flagOf d a) b ≡ state.Hopele
 unfolding flagOf
 flag-last d a b = either (eqb a 0x31) (λ e. rw e) (λ e. either (eqb a 0x30) (λ k. rw (e, k)) (λ k. rw (e, k)))
 
+-- the sign that a state holds
+sign-back : (n : Bool) → eqb (pick n 1 0) 1 ≡ n
+sign-back true = refl
+sign-back false = refl
+
 module _ (n : Bool) (v w : ℕ) (h : Agree v w) where
   flag-one : (a : ℕ) → endedOf (flagOf (decimal n v) a) ≡ pick (eqb a 0x31 || eqb a 0x30) (sampleOf (signedOf n w) (eqb a 0x31)) event.None
   unfolding flagOf
   flag-one a =
       either (eqb a 0x31)
-      (λ e. rw e (agree-sample n v w true h))
-      (λ e. either (eqb a 0x30) (λ k. rw (e, k) (agree-sample n v w false h)) (λ k. rw (e, k)))
+      (λ e. rw (e, sign-back n) (agree-sample n v w true h))
+      (λ e. either (eqb a 0x30) (λ k. rw (e, k, sign-back n) (agree-sample n v w false h)) (λ k. rw (e, k)))
 
   flag-made : (t : List ℕ) → made (state.Blank (decimal n v)) t ≡ flagIn n w (wordsOf t .first) (wordsOf t .others)
   unfolding stateAfter wordsOf flagOf
@@ -266,7 +271,7 @@ quiet-pick false a b h k = k
 
 quiet-digit : (d : Decimal) (b : ℕ) → quiet (digitOf d b) ≡ true
 unfolding digitOf
-quiet-digit d b = quiet-pick (isDigit b) (state.Digits (decimal (d .negative) (grownOf (d .size) (b - 0x30)))) state.Hopeless refl refl
+quiet-digit d b = quiet-pick (isDigit b) (state.Digits (record { minus = d .minus; size = grownOf (d .size) (b - 0x30) })) state.Hopeless refl refl
 
 quiet-next : (s : State) (b : ℕ) → quiet s ≡ true → quiet (nextOf s b) ≡ true
 unfolding signOf moreOf flagOf

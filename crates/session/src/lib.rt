@@ -1,6 +1,7 @@
 // A line of the bench form, read byte by byte: a command, a sample, a restart, or none of them (document 01, the paragraph on the bench program).
 // Lines are of any length, so no line is held: where it stands is a small state by value, and a command's bytes are handed on as they come.
 ghost use mathlib.Core.Path.{_≡_};
+ghost use lib.Dec.{eqb};
 ghost use Rattle.session.specs.Form.{isDigit, sampleOf, signedOf};
 ghost use Rattle.session.specs.Reader.{grownOf, digitOf, onOf, firstOf, signOf, moreOf, flagOf, nextOf, passOf, steppedOf, endedOf};
 
@@ -9,9 +10,10 @@ const LEAST: u64 = 2147483648;
 
 const MOST: u64 = 2147483647;
 
-// The digits of x that were read, and whether a minus stands in front of them.
+// The digits of x that were read, and 1 where a minus stands in front of them, else 0. This is no bool: a state is copied for each byte, and
+// the gap that a bool leaves before a number makes that copy slow.
 pub struct Decimal {
-    pub negative: bool,
+    pub minus: u64,
     pub size: u64,
 }
 
@@ -76,7 +78,7 @@ fn digit(d: Decimal, b: u8) -> State
 {
     if is_digit(b) {
         return State::Digits(Decimal {
-            negative: d.negative,
+            minus: d.minus,
             size: grown(d.size, b - b'0'),
         });
     }
@@ -112,13 +114,7 @@ fn sign(b: u8) -> State
     if b == b'-' {
         return State::Minus;
     }
-    digit(
-        Decimal {
-            negative: false,
-            size: 0,
-        },
-        b,
-    )
+    digit(Decimal { minus: 0, size: 0 }, b)
 }
 
 // A digit more, or the blank after them.
@@ -149,13 +145,7 @@ fn next(s: State, b: u8) -> State
         State::Command => State::Command,
         State::S => on(b, b' ', State::X),
         State::X => sign(b),
-        State::Minus => digit(
-            Decimal {
-                negative: true,
-                size: 0,
-            },
-            b,
-        ),
+        State::Minus => digit(Decimal { minus: 1, size: 0 }, b),
         State::Digits(d) => more(d, b),
         State::Blank(d) => flag(d, b),
         State::Flag(_, _) => State::Hopeless,
@@ -196,10 +186,10 @@ pub fn step(s: State, b: u8) -> Stepped
 
 // x, if it is in signed 32 bits.
 fn sampled(d: Decimal, still: bool) -> Event
-    ensures { λ r. ⌜ r ≡ sampleOf (signedOf (d .negative) (d .size)) still ⌝ }
+    ensures { λ r. ⌜ r ≡ sampleOf (signedOf (eqb (d .minus) 1) (d .size)) still ⌝ }
 {
     let size = d.size;
-    if d.negative {
+    if d.minus == 1 {
         if LEAST < size {
             return Event::None;
         }

@@ -19,18 +19,7 @@ use Rattle.state.specs.Settings.{factoryOf}
 use Rattle.state.specs.Changes.{noZeros, newUnit, restartedOf}
 use Rattle.state.specs.RangedLaws.{Ranged, ranged-yes, yes-ranged}
 use Rattle.state.specs.KeepLaws.{new-ranged, restarted-keeps}
-use Rattle.state.specs.Sound.{tareIn, firstIn, laterIn, soundTests, soundOf}
-
--- the joint rules alone
-pub record Banded (s t : Settings) (z : Zeros) : Type 0 where
-  pub tare-used : tareIn s ≡ true
-  pub tare-saved : tareIn t ≡ true
-  pub first-in : firstIn s z ≡ true
-  pub later-in : laterIn s z ≡ true
-  pub lft-saved : t .lft ≡ s .lft
-
-abbrev pub BandedOf : TheUnit → Type 0
-BandedOf u = Banded (u .used) (u .saved) (u .zeros)
+use Rattle.state.specs.Sound.{Banded, BandedOf, tareIn, firstIn, laterIn, soundTests, soundOf}
 
 pub sound-yes : (u : TheUnit) → soundOf u ≡ true → Ranged u × BandedOf u
 unfolding soundOf

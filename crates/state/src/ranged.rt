@@ -80,15 +80,17 @@ fn lock_in(counter: u64, reason: u64, w: Password) -> bool
     (counter <= 9_999_999) & (reason <= 11) & (w.len <= 7)
 }
 
+// The settings by branches: with one sum of tests all fields would be read before the first is looked at.
 pub fn is_ranged(u: Unit) -> bool
     ensures { λ r. ⌜ r ≡ rangedOf u ⌝ }
 {
     let seen = u.seen;
     let w = u.password;
-    settings_in(u.used)
-        & settings_in(u.saved)
-        & zeros_in(u.zeros)
-        & point_in(u.point)
-        & seen_in(seen)
-        & lock_in(u.counter, u.reason, w)
+    if settings_in(u.used) {} else {
+        return false;
+    }
+    if settings_in(u.saved) {} else {
+        return false;
+    }
+    zeros_in(u.zeros) & point_in(u.point) & seen_in(seen) & lock_in(u.counter, u.reason, w)
 }

@@ -1,4 +1,4 @@
--- The weights of a ranged unit, as the arithmetic's contracts ask for them. Assumes nothing.
+-- The weights of a ranged unit, as the arithmetic's contracts ask for them; and what over and under are judged by. Assumes nothing.
 use mathlib.Core.Path.{_≡_, refl}
 use mathlib.Core.Bool.{Bool, true}
 use Prim.Native.Nat.{_≤_}
@@ -15,10 +15,12 @@ use Rattle.weight.specs.Display.{cellPlace}
 use Rattle.weight.specs.DisplayLaws.{cell-within}
 use Rattle.state.specs.declared.Seen.{Seen}
 use Rattle.state.specs.declared.Seen.the-variants as seen
+use Rattle.state.specs.declared.Free.{Free}
 use Rattle.state.specs.declared.Unit.{Unit as TheUnit}
+use Rattle.state.specs.Changes.{freedOf}
 use Rattle.state.specs.Ranged.{seenIn}
 use Rattle.state.specs.RangedLaws.{Ranged, scale-of, tare-of, zeros-of}
-use Rattle.weighing.specs.Reading.{seenAt, seenOf, cellOf, vNow, gNow, grossNow}
+use Rattle.weighing.specs.Reading.{seenAt, seenOf, cellOf, vNow, gNow, grossNow, placeNow}
 use Rattle.weighing.specs.Samples.{seeing}
 
 -- a sample as it is held is in the cell's range
@@ -66,3 +68,8 @@ module _ (u : TheUnit) (h : Ranged u) where
   pub gross-now : natAbs (grossNow u .0) ≤ 39231761
   unfolding grossNow
   gross-now = let s = scale-now in omega (arith, gross-to (u .used .sealed .scale .rsn) (gNow u) (s .rsn-from), g-now)
+
+-- over and under are judged on gross: whatever TAS and the tare are, a unit's place is the same
+pub placed-by-gross : (u : TheUnit) (f : Free) → placeNow (freedOf u f) ≡ placeNow u
+unfolding vNow grossNow
+placed-by-gross u f = refl

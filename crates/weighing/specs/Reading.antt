@@ -1,4 +1,5 @@
--- What a unit reads, worked out anew from the held sample with the settings and zeros now in use. Document 01, "Weight". What a reader must believe.
+-- What a unit reads. No weight is stored: each is made when it is asked for, of the last sample, by the settings in use and the zeros as they stand
+-- (reading 16, docs/DECISIONS.md). Document 01, "Weight". What a reader must believe.
 use mathlib.Core.Bool.{Bool, true, false}
 use lib.IntN.{ℤ, pos}
 use Rattle.weight.specs.declared.Cell.{Cell}
@@ -16,7 +17,7 @@ use Rattle.weighing.specs.declared.Reading.{Reading}
 use Rattle.weighing.specs.declared.Reading.the-variants as reading
 
 -- ---- the held sample
--- a sample as it is held: over, under, or a number with its still flag
+-- a sample as it is held ("Shapes asked for"): its number and its flag, or that it is beyond the cell's range, and on which side
 abbrev pub seenAt : Place → Cell → Bool → Seen
 seenAt place.Within x still = seen.Number x still
 seenAt place.Over x still = seen.Over
@@ -32,14 +33,14 @@ cellOf seen.Over = asCell (pos 0)
 cellOf seen.Under = asCell (pos 0)
 cellOf (seen.Number x still) = x
 
--- still: by the cell's flag; no over or under sample is
+-- still: by the cell's flag, of a number alone (reading 14, docs/DECISIONS.md)
 abbrev pub stillOf : Seen → Bool
 stillOf seen.Nothing = false
 stillOf seen.Over = false
 stillOf seen.Under = false
 stillOf (seen.Number x still) = still
 
--- a steady reading: the last sample since the restart is still, and itself neither over nor under
+-- a steady reading ("Curve, zero and tare"): what was last seen is a number, and a still one
 abbrev pub steadyOf : Seen → Bool
 steadyOf s = stillOf s
 
@@ -76,14 +77,14 @@ grossPlace u = placeOf (u .used .lft) (u .used .sealed .scale .nov) (u .used .se
 abbrev pub placeNow : TheUnit → Place
 placeNow u = placeAt (u .seen) (grossPlace u)
 
--- what is shown: net or gross by TAS
+-- what is shown: TAS chooses net or gross
 abbrev pub valueNow : TheUnit → Digits
 valueNow u = byTas (u .used .free .tas) (netNow u) (grossNow u)
 
 abbrev pub shownNow : TheUnit → Shown
 shownNow u = shownAt (placeNow u) (valueNow u)
 
--- ---- a reading as a host sees it: nothing yet, over, under, or the weight; and whether it is steady
+-- ---- a reading as a host sees it: none yet, the weight, or that it is over or under; and whether it is steady
 abbrev pub readAt : Place → Digits → Digits → Digits → Bool → Reading
 readAt place.Within g n v s = reading.Weight g n v s
 readAt place.Over g n v s = reading.Over s

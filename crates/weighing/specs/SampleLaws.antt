@@ -13,8 +13,8 @@ use Rattle.state.specs.declared.Unit.{Unit as TheUnit}
 use Rattle.state.specs.Ranged.{zerosTests, zerosIn}
 use Rattle.state.specs.RangedLaws.{Ranged}
 use Rattle.state.specs.KeepLaws.{in-use-keeps, counter-in}
-use Rattle.state.specs.Sound.{firstIn, laterIn, soundOf}
-use Rattle.state.specs.SoundLaws.{BandedOf, sound-yes, yes-sound}
+use Rattle.state.specs.Sound.{firstIn, laterIn, soundOf, BandedOf}
+use Rattle.state.specs.SoundLaws.{sound-yes, yes-sound}
 use Rattle.weighing.specs.Reading.{steadyOf, seenOf, grossNow, netNow}
 use Rattle.weighing.specs.Samples.{seeing, tries, firstNow, tracksNow, trackedNow, zerosNow, zeroing, sampleOf}
 use Rattle.weighing.specs.RangeLaws.{scale-now, seeing-ranged}
@@ -51,7 +51,7 @@ sampled-sound u x still e =
     let r = seeing-ranged u x still (h .0) in
     yes-sound (sampleOf u x still) (zeroing-ranged (seeing u x still) (h .1) r) (zeroing-banded (seeing u x still) (h .1))
 
--- there is one try: after a steady sample the first zeroing waits no more
+-- the first zeroing has a single try: after a steady sample it waits no more
 pub one-try : (u : TheUnit) (x : ℤ) (still : Bool) → steadyOf (seenOf x still) ≡ true → sampleOf u x still .zeros .waits ≡ false
 one-try u x still e = rw e
 

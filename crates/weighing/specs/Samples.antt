@@ -1,4 +1,5 @@
--- What a sample does: it is seen, spent on the first zeroing, or tracked. Document 01, "Curve, zero and tare". What a reader must believe.
+-- What a sample does: it is held; a steady one is then spent on the first zeroing, where that waits, or else tracked. Document 01, "Curve, zero and tare".
+-- What a reader must believe.
 use mathlib.Core.Bool.{Bool, not, _&&_}
 use lib.Dec.{eqb}
 use lib.IntN.{ℤ}
@@ -14,14 +15,14 @@ use Rattle.weighing.specs.Reading.{seenOf, steadyOf, vNow, gNow}
 abbrev pub seeing : TheUnit → ℤ → Bool → TheUnit
 seeing u x still = sighted u (seenOf x still) (u .zeros)
 
--- the first steady sample after a restart is spent on the one try of the first zeroing, where that waits
+-- where the first zeroing waits, a steady sample is spent on its one try, within the band or not (reading 13, docs/DECISIONS.md)
 abbrev pub tries : TheUnit → Bool
 tries u = steadyOf (u .seen) && u .zeros .waits
 
 unfoldable pub firstNow : TheUnit → Tenths
 firstNow u = firstZero (u .used .sealed .zse) (u .used .sealed .scale .nov) (vNow u)
 
--- a steady sample that is not spent so is tracked with ZTR 1
+-- a steady sample that is not spent so is tracked with ZTR 1, whatever the display range says (reading 11, docs/DECISIONS.md)
 abbrev pub tracksNow : TheUnit → Bool
 tracksNow u = (steadyOf (u .seen) && not (u .zeros .waits)) && eqb (u .used .sealed .ztr) 1
 

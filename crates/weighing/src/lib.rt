@@ -1,4 +1,4 @@
-// What a unit reads, and how samples move it. Weights are worked out anew from the held sample with the settings and zeros now in use.
+// What a unit reads, and how samples move it. No weight is stored: each is made when it is asked for.
 use state::Seen;
 use state::Unit;
 use state::Zeros;
@@ -123,11 +123,12 @@ pub fn gross_place(u: Unit) -> Place
     requires { ⌜ Ranged u ⌝ }
     ensures { λ r. ⌜ r ≡ grossPlace u ⌝ }
 {
+    let g = gross_now(u);
     display::place_of(
         u.used.lft,
         u.used.sealed.scale.nov,
         u.used.sealed.scale.rsn,
-        gross_now(u),
+        g,
     )
 }
 

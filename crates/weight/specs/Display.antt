@@ -1,5 +1,5 @@
 -- Document 01, "Weight": over and under, of a sample and of a weight, and what a shown value reads as. What a reader must believe.
--- Percentages are compared exactly, in hundredths.
+-- Limits are in hundredths of a digit, so that no percentage is rounded (reading 15, docs/DECISIONS.md).
 use Prim.Native.Nat.{ℕ, _+_, _*_}
 use lib.Dec.{leb, eqb}
 use lib.IntN.{ℤ, pos, negℤ, _*ℤ_}
@@ -11,13 +11,12 @@ use Rattle.weight.specs.declared.Place.{Place}
 use Rattle.weight.specs.declared.Place.the-variants.{Within, Over, Under}
 use Rattle.weight.specs.declared.Shown.{Shown}
 use Rattle.weight.specs.declared.Shown.the-variants as shown
-use Rattle.weight.specs.Weight.{net}
 
 -- above the higher of two limits, below the lower, or neither
 unfoldable pub placeBy : ℤ → ℤ → ℤ → Place
 placeBy lo hi n = pick (ltZ hi n) Over (pick (ltZ n lo) Under Within)
 
--- a sample beyond ±1,599,999 is over or under
+-- of a sample: the cell's range ends at ±1,599,999
 abbrev pub cellPlace : ℤ → Place
 cellPlace x = placeBy (negℤ (pos 1599999)) (pos 1599999) x
 
@@ -47,15 +46,11 @@ shownAt Under n = shown.Under
 abbrev pub byTas : {A : Type 0} → ℕ → A → A → A
 byTas tas n g = pick (eqb tas 0) n g
 
--- the shown value: net or gross; over or under by gross, whichever is shown
-abbrev pub shownBy : ℕ → ℕ → ℕ → ℕ → Digits → Digits → Shown
-shownBy lft nov rsn tas g tare = shownAt (placeOf lft nov rsn g) (byTas tas (net g tare) g)
-
 abbrev pub asFigure : ℤ → Figure
 asFigure n = record { 0 = n }
 
 -- ---- the number that stands for each shown value
--- in 7 digits, at COF 3 and 9: over and under are 9999999 with its sign
+-- in 7 digits, at COF 3 and 9: over is 9999999, under the same below zero
 abbrev pub inDecimal : Shown → Figure
 inDecimal (shown.Number n) = asFigure (n .0)
 inDecimal shown.Over = asFigure (pos 9999999)
@@ -67,7 +62,7 @@ inFour (shown.Number n) = asFigure (n .0)
 inFour shown.Over = asFigure (pos 0x7fffffff)
 inFour shown.Under = asFigure (negℤ (pos 0x80000000))
 
--- in two bytes, at COF 2: 7FFF and 8000 hex, which also stand for what is above 32766 and below -32767
+-- in two bytes, at COF 2: 7FFF and 8000 hex, which also stand for a shown value above 32766 and below -32767 (reading 15, docs/DECISIONS.md)
 unfoldable pub twoOf : Digits → Figure
 twoOf n = pick (ltZ (pos 32766) (n .0)) (asFigure (pos 0x7fff)) (pick (ltZ (n .0) (negℤ (pos 32767))) (asFigure (negℤ (pos 0x8000))) (asFigure (n .0)))
 

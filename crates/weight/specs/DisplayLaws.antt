@@ -14,9 +14,7 @@ use Rattle.weight.specs.declared.Digits.{Digits}
 use Rattle.weight.specs.declared.Place.{Place}
 use Rattle.weight.specs.declared.Place.the-variants.{Within, Over, Under}
 use Rattle.weight.specs.Weight.{net}
-use Rattle.weight.specs.declared.Shown.{Shown}
-use Rattle.weight.specs.declared.Shown.the-variants as shown
-use Rattle.weight.specs.Display.{placeBy, cellPlace, byMode, highest, lowest, placeOf, shownAt, byTas, shownBy}
+use Rattle.weight.specs.Display.{placeBy, cellPlace, byMode, highest, lowest}
 
 -- ---- by LFT
 module _ {A : Type 0} (lft : ℕ) (a b c : A) where
@@ -69,17 +67,3 @@ cell-within x h = let k = place-within (negℤ (pos 1599999)) (pos 1599999) x h 
 pub net-and-tare : (g tare : Digits) → net g tare .0 +ℤ tare .0 ≡ g .0
 unfolding net
 net-and-tare g tare = +ℤ-assoc (g .0) (negℤ (tare .0)) (tare .0) ∙ ap (g .0 +ℤ_) (+ℤ-invl (tare .0)) ∙ +ℤ-idr (g .0)
-
--- ---- over and under are judged on gross, whatever is shown
-abbrev pub placeIn : Shown → Place
-placeIn (shown.Number n) = Within
-placeIn shown.Over = Over
-placeIn shown.Under = Under
-
-at-place : (p : Place) (n : Digits) → placeIn (shownAt p n) ≡ p
-at-place Within n = refl
-at-place Over n = refl
-at-place Under n = refl
-
-pub judged-on-gross : (lft nov rsn tas : ℕ) (g tare : Digits) → placeIn (shownBy lft nov rsn tas g tare) ≡ placeOf lft nov rsn g
-judged-on-gross lft nov rsn tas g tare = at-place (placeOf lft nov rsn g) (byTas tas (net g tare) g)

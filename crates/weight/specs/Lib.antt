@@ -1,4 +1,5 @@
 pub mod Weight
+pub mod LoadLaws
 pub mod Sets
 pub mod Display
 pub mod Zero

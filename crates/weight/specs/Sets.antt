@@ -1,4 +1,4 @@
--- Document 01, "Commands" and "Weight": the sets that the scale's values are taken from. What a reader must believe.
+-- Document 01, "Commands", "Weight" and, for the span, "Curve, zero and tare": the sets that the scale's values and tares are taken from. What a reader must believe.
 use mathlib.Core.Bool.{Bool}
 use mathlib.Core.List.{List, [], _∷_}
 use Prim.Native.Nat.{ℕ}
@@ -32,7 +32,7 @@ nominals = Between 100 100000
 abbrev pub steps : Range
 steps = Among (1 ∷ 2 ∷ 5 ∷ 10 ∷ 20 ∷ 50 ∷ [])
 
--- the tare range: ±NOV at LFT 0, else 0 to NOV
+-- a tare ("Weight"): no further from 0 than NOV, and below 0 at LFT 0 alone
 abbrev pub tares : ℕ → ℕ → Range
 tares lft nov = pick (eqb lft 0) (Sized nov) (Between 0 nov)
 

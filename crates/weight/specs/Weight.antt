@@ -1,5 +1,5 @@
 -- Document 01, "Weight": from a sample to the displayed digits. What a reader must believe.
--- Every rounding is `roundDiv`: to nearest, a half away from zero.
+-- All rounding is done by `roundDiv` (whole/specs/Round).
 use Prim.Native.Nat.{ℕ, _*_}
 use lib.IntN.{ℤ, pos, natAbs, _-ℤ_, _*ℤ_}
 use Rattle.whole.specs.Round.{roundDiv}
@@ -26,7 +26,8 @@ corrected s x = asCell (roundDiv ((x .0 -ℤ s .curve .l .0) *ℤ pos (s .gca)) 
 abbrev pub spanOf : Curve → ℤ
 spanOf k = k .w .0 -ℤ k .l .0
 
--- v: u, times 10·NOV·C, by W - L in millionths; in tenths of a digit
+-- v: u, times 10·NOV·C, by W - L in millionths; in tenths of a digit. What `roundDiv` divides by is a natural number, so the size of W - L is taken:
+-- W - L is at least 10,000 ("Curve, zero and tare", `spans`), so that its size is itself
 unfoldable pub tenths : Scale → Cell → Tenths
 tenths s x = asTenths (roundDiv (corrected s x .0 *ℤ pos (10 * s .nov * s .curve .c)) (natAbs (spanOf (s .curve)) * 1000000))
 
@@ -46,6 +47,6 @@ gross rsn g = asDigits (roundDiv (g .0) (10 * rsn) *ℤ pos rsn)
 unfoldable pub net : Digits → Digits → Digits
 net g tare = asDigits (g .0 -ℤ tare .0)
 
--- 10·tare: the one place where digits become tenths, exactly
+-- 10·tare: the one place where digits become tenths, with no rounding (reading 16, docs/DECISIONS.md)
 unfoldable pub inTenths : Digits → Tenths
 inTenths tare = asTenths (tare .0 *ℤ pos 10)

@@ -10,15 +10,15 @@ use Rattle.weight.specs.declared.Digits.{Digits}
 use Rattle.weight.specs.Weight.{asTenths, less, inTenths}
 use Rattle.weight.specs.Display.{byTas}
 
--- |z| is at most p % of NOV, compared exactly as a share of 10·NOV tenths
+-- |z| is at most p % of NOV, which is 10·NOV in tenths; the percentage is not rounded (reading 15, docs/DECISIONS.md)
 unfoldable pub withinShare : ℕ → ℕ → Tenths → Bool
 withinShare p nov z = leb (natAbs (z .0) * 100) (p * (10 * nov))
 
--- CDL's band: 20 % of NOV at LFT 0, else 2 %
+-- how far from 0 CDL may put its zero, in percent of NOV: 20 where LFT is 0, 2 where it is not
 abbrev pub laterShare : ℕ → ℕ
 laterShare lft = pick (eqb lft 0) 20 2
 
--- CDL's zero: v less z0
+-- CDL's zero, which its band is for: v less z0 (reading 11, docs/DECISIONS.md)
 abbrev pub cleared : Tenths → Tenths → Tenths
 cleared v z0 = less v z0
 
@@ -30,19 +30,19 @@ firstShare zse = pick (eqb zse 0) 0 (pick (eqb zse 1) 2 (pick (eqb zse 2) 5 (pic
 unfoldable pub firstZero : ℕ → ℕ → Tenths → Tenths
 firstZero zse nov v = pick (withinShare (firstShare zse) nov v) v (asTenths (pos 0))
 
--- the value that is tracked, the shown one before rounding: g, or g less 10·tare where net is shown
+-- the value that is tracked, what is shown but not yet rounded: g, or g less 10·tare where net is shown (reading 16, docs/DECISIONS.md)
 abbrev pub trackedValue : ℕ → Tenths → Digits → Tenths
 trackedValue tas g tare = byTas tas (less g (inTenths tare)) g
 
--- it starts tracking where it is not 0 and below 5·RSN tenths in size
+-- it is tracked where it is off 0 by less than half a step, that is 5·RSN tenths
 unfoldable pub tracks : ℕ → Tenths → Bool
 tracks rsn s = ltb 0 (natAbs (s .0)) && ltb (natAbs (s .0)) (5 * rsn)
 
--- z1 one tenth on in that value's direction
+-- z1 a tenth higher where that value is above 0, a tenth lower where it is below
 unfoldable pub moved : Tenths → Tenths → Tenths
 moved z1 s = pick (ltZ (pos 0) (s .0)) (asTenths (z1 .0 +ℤ pos 1)) (pick (ltZ (s .0) (pos 0)) (asTenths (z1 .0 -ℤ pos 1)) z1)
 
--- it stays within 2 % of NOV: before the move and after it
+-- neither before the move nor after it is z1 further from 0 than 2 % of NOV (reading 12, docs/DECISIONS.md)
 abbrev pub stays : ℕ → Tenths → Tenths → Bool
 stays nov z1 z = withinShare 2 nov z1 && withinShare 2 nov z
 

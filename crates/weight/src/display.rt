@@ -8,7 +8,7 @@ ghost use mathlib.Core.Path.{_≡_};
 ghost use Prim.Native.Nat.{_≤_, _^_};
 ghost use lib.IntN.{natAbs};
 ghost use Rattle.cases.specs.Pick.{pick};
-ghost use Rattle.weight.specs.Display.{placeBy, cellPlace, highest, lowest, placeOf, shownAt, shownBy, asFigure, inDecimal, inFour, twoOf, inTwo};
+ghost use Rattle.weight.specs.Display.{placeBy, cellPlace, highest, lowest, placeOf, shownAt, asFigure, inDecimal, inFour, twoOf, inTwo};
 
 fn place_by(lo: i64, hi: i64, n: i64) -> Place
     ensures { λ r. ⌜ r ≡ placeBy lo hi n ⌝ }
@@ -81,16 +81,6 @@ pub fn net_or_gross(nets: bool, n: Digits, g: Digits) -> Digits
     ensures { λ r. ⌜ r ≡ pick nets n g ⌝ }
 {
     if nets { n } else { g }
-}
-
-// Net or gross by TAS; over and under are judged on gross, whichever is shown.
-pub fn shown_by(lft: u64, nov: u64, rsn: u64, tas: u64, g: Digits, tare: Digits) -> Shown
-    requires { ⌜ (natAbs (g .0) ≤ 2 ^ 40) × ((natAbs (tare .0) ≤ 2 ^ 40) × ((nov ≤ 100000) × (rsn ≤ 50))) ⌝ }
-    ensures { λ r. ⌜ r ≡ shownBy lft nov rsn tas g tare ⌝ }
-{
-    let p = place_of(lft, nov, rsn, g);
-    let n = crate::net_of(g, tare);
-    shown_at(p, net_or_gross(tas == 0, n, g))
 }
 
 fn figure_of(n: Digits) -> Figure

@@ -73,7 +73,7 @@ pub fn scale_in(s: Scale) -> bool
         & is_step(true, s.rsn)
 }
 
-// ±NOV at LFT 0, else 0 to NOV.
+// No tare is further from 0 than NOV; `either`, which is LFT 0, allows one below 0.
 fn tare_by(either: bool, plus: bool, n: u64, nov: u64) -> bool
     ensures { λ r. ⌜ r ≡ has (pick either (Sized nov) (Between 0 nov)) plus n ⌝ }
 {

@@ -66,7 +66,7 @@ pub fn first_zero(zse: u64, nov: u64, v: Tenths) -> Tenths
     choose(ok, v, Tenths(0))
 }
 
-// The shown value before rounding.
+// What is shown, not yet rounded.
 pub fn tracked_value(tas: u64, g: Tenths, tare: Digits) -> Tenths
     requires { ⌜ (natAbs (g .0) ≤ 2 ^ 40) × (natAbs (tare .0) ≤ 100000) ⌝ }
     ensures { λ r. ⌜ r ≡ trackedValue tas g tare ⌝ }
@@ -75,7 +75,7 @@ pub fn tracked_value(tas: u64, g: Tenths, tare: Digits) -> Tenths
     choose(tas == 0, n, g)
 }
 
-// Not 0, and below 5·RSN tenths in size.
+// Off 0 by less than half a step, that is 5·RSN tenths.
 pub fn is_tracked(rsn: u64, s: Tenths) -> bool
     requires { ⌜ rsn ≤ 50 ⌝ }
     ensures { λ r. ⌜ r ≡ tracks rsn s ⌝ }

@@ -1,4 +1,5 @@
--- Laws of rounding: its bounds, and that it IS to nearest, a half away from zero (`nearest`, `half-away`, `only-one`). Assumes nothing.
+-- Laws of rounding: its bounds, and what pins it: the nearest (`nearest`), of two equally near the larger in size (`half-away`), and nothing else (`only-one`).
+-- Assumes nothing.
 use mathlib.Core.Path.{_≡_, refl, sym, ap, _∙_}
 use mathlib.Core.Bool.{Bool, true, false, not, cond}
 use Prim.Native.Nat.{ℕ, zero, suc, _+_, _*_, _-_, _/_, _<_, _≤_}

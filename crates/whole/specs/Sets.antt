@@ -14,7 +14,7 @@ pub data Range : Type 0 where
   -- at most so far from 0
   Sized : ℕ → Range
 
--- a natural number is the one given, or one of a list
+-- a natural number is one of a list, or the verdict so far, b, is yes already
 abbrev pub oneOf : Bool → ℕ → List ℕ → Bool
 oneOf b n [] = b
 oneOf b n (m ∷ ms) = oneOf (b || eqb n m) n ms

@@ -1,4 +1,4 @@
-// Signed whole numbers: their sign and size, the sets that they are taken from, and a product divided and rounded to nearest, a half away from zero.
+// Signed whole numbers: their sign and size, the sets that they are taken from, and a product divided and rounded.
 ghost use mathlib.Core.Path.{_≡_};
 ghost use mathlib.Core.Bool.{Bool};
 ghost use Prim.Native.Nat.{_+_, _*_, _<_, _^_};
@@ -50,7 +50,7 @@ pub fn round_nat(n: u64, d: u64) -> u64
     (2 * n + d) / (2 * d)
 }
 
-// x * m / d to the nearest whole number, a half away from zero: the work is done on sizes, where nothing wraps.
+// x * m / d to the nearest whole number; of two that are equally near, the larger in size. The work is done on sizes, where nothing wraps.
 pub fn round_mul_div(x: i64, m: u64, d: u64) -> i64
     requires { ⌜ (0 < d) × (2 * (natAbs x * m) + 2 * d < 2 ^ 63) ⌝ }
     ensures { λ r. ⌜ r ≡ roundDiv (x *ℤ pos m) d ⌝ }

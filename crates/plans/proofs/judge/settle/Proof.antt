@@ -1,5 +1,6 @@
 -- `plans::judge::settle` meets its contract. Assumes nothing.
 use borrow.Author.Needs.{needs}
+use Rattle.cases.specs.PickLaws.{cases, named}
 use Rattle.plans.proofs.judge.settle.Statement.{statement}
 use Rattle.plans.proofs.judge.settle.Tie as tie
 
@@ -8,6 +9,6 @@ settle-spec =
     tie.close
     (tie.spec
     (λ c κs. search needs)
+    (λ c. search (cases, named))
     (λ c κs. search needs)
-    (λ c κs. search needs)
-    (λ c. rw (c .pick-answer .ensures, c .before .passes .ensures, c .before .before .refused .ensures)))
+    (λ c. search (cases, named)))

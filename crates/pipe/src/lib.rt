@@ -1,0 +1,53 @@
+// What the programs do alike: bytes that wait to be written, and the lines that are no command's.
+use libc::STDOUT_FILENO;
+use session::Event;
+use state::Unit;
+ghost use Prim.Native.Nat.{_+_, _≤_};
+ghost use lib.ListN.{length};
+
+pub fn write(out: &[u8], o: usize) {
+    let from: usize = 0;
+    if o <= out.len() {
+        io::write_all(STDOUT_FILENO, &out[from..o]);
+    }
+}
+
+// Where a reply fits: at o, or at the start once what waits there is written.
+pub fn place(out: &[u8], o: usize) -> usize
+    requires { ⌜ 17 ≤ length (now out) ⌝ }
+    ensures { λ r. ⌜ r + 17 ≤ length (now (out .entry)) ⌝ }
+{
+    if o <= out.len() - reply::ROOM {
+        return o;
+    }
+    write(out, o);
+    0
+}
+
+pub fn put(out: &mut [u8], o: usize, b: u8) -> usize
+    requires { ⌜ 17 ≤ length (now out) ⌝ }
+{
+    let p = place(out, o);
+    out[p] = b;
+    p + 1
+}
+
+// A line of no form is marked.
+pub fn marked(e: Event, out: &mut [u8], o: usize) -> usize
+    requires { ⌜ 17 ≤ length (now out) ⌝ }
+{
+    let Event::None = e else {
+        return o;
+    };
+    let p = put(out, o, b'!');
+    put(out, p, b'\n')
+}
+
+// A sample or a restart; no other line changes the unit here.
+pub fn happened(u: Unit, e: Event) -> Unit {
+    match e {
+        Event::Sample(x, still) => wire::sample(u, x, still),
+        Event::Restart => wire::restart(u),
+        _ => u,
+    }
+}
