@@ -16,7 +16,7 @@ use Rattle.weight.specs.declared.Place.{Place}
 use Rattle.weight.specs.declared.Place.the-variants as place
 use Rattle.weight.specs.declared.Tenths.{Tenths}
 use Rattle.weight.specs.Weight.{asCell}
-use Rattle.weight.specs.Display.{cellPlace}
+use Rattle.weight.specs.Display.{cellPlace, shownAt}
 use Rattle.weight.specs.Zero.{withinShare}
 use Rattle.weight.specs.ZeroLaws.{tracked-cases}
 use Rattle.state.specs.declared.Unit.{Unit as TheUnit}
@@ -24,7 +24,7 @@ use Rattle.state.specs.Changes.{restartedOf}
 use Rattle.state.specs.RangedLaws.{yes-ranged}
 use Rattle.state.specs.Sound.{BandedOf}
 use Rattle.state.specs.SoundLaws.{sound-yes}
-use Rattle.weighing.specs.Reading.{seenAt, sampledOf, steadyOf, grossNow, netNow, valueNow, placeNow, readAt, readBy, readingOf}
+use Rattle.weighing.specs.Reading.{seenAt, sampledOf, steadyOf, grossNow, netNow, valueNow, placeNow, shownNow, readAt, readBy, readingOf}
 use Rattle.weighing.specs.SampleLaws.{net-now}
 use Rattle.weighing.specs.Samples.{seeing, tracksNow, trackedNow}
 use Rattle.plans.specs.Obey.{judge, obeyOf}
@@ -33,7 +33,7 @@ use Rattle.plans.specs.Answers.{Answered, answered}
 use Rattle.plans.specs.Answers as answer
 use Rattle.wire.specs.Wire.{read}
 use Rattle.demands.specs.Host.{New, Event, byte, sample, next, reply, after, ends, shape, Call, Calls, last, allEvents, AllServed}
-use Rattle.demands.specs.Words.{Replied, within, empty, restart, one, Displayed, nothing, over, under, weight}
+use Rattle.demands.specs.Words.{Replied, within, empty, restart, one, Displayed, nothing, over, under, weight, displayed}
 use Rattle.demands.proofs.Served.{all-served}
 use Rattle.demands.proofs.Reached.{after-append, within-text, end-text, end-unit, sound-new, reached}
 
@@ -78,6 +78,15 @@ displays v =
 
 pub one-weight : (u : TheUnit) → New u → (es : List Event) → Displayed (after u es) (read (after u es))
 one-weight u n es = rw (yes-ranged (sound-yes _ (reached u n es) .0)) (displays (after u es))
+
+-- it is the weight that MSV? gives (`msv-says`)
+as-shown : (v : TheUnit) (p : Place) → displayed (readAt p (grossNow v) (netNow v) (valueNow v) (steadyOf (v .seen))) ≡ shownAt p (valueNow v) ∷ []
+as-shown v place.Within = refl
+as-shown v place.Over = refl
+as-shown v place.Under = refl
+
+pub same-weight : (u : TheUnit) → New u → (es : List Event) → sampledOf (after u es .seen) ≡ true → displayed (read (after u es)) ≡ shownNow (after u es) ∷ []
+same-weight u n es h = rw (yes-ranged (sound-yes _ (reached u n es) .0), h) (as-shown (after u es) (placeNow (after u es)))
 
 seen-there : (p : Place) (x : Cell) (still : Bool) → sampledOf (seenAt p x still) ≡ true
 seen-there place.Within x still = refl

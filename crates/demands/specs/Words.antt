@@ -2,7 +2,7 @@
 use mathlib.Core.Path.{_≡_}
 use mathlib.Core.Logic.{_⊎_}
 use mathlib.Core.Bool.{true, false, not, _&&_}
-use mathlib.Core.List.{[]}
+use mathlib.Core.List.{List, [], _∷_}
 use Prim.Native.Nat.{ℕ}
 use lib.Dec.{eqb}
 use lib.IntN.{_+ℤ_}
@@ -12,6 +12,8 @@ use Rattle.line.specs.declared.shape.Shape.the-variants as shaped
 use Rattle.line.specs.Line.{zeros, freshPos}
 use Rattle.reply.specs.Reply.{refusedText}
 use Rattle.weight.specs.declared.Place.the-variants as place
+use Rattle.weight.specs.declared.Shown.{Shown}
+use Rattle.weight.specs.declared.Shown.the-variants as shown
 use Rattle.state.specs.declared.Unit.{Unit as TheUnit}
 use Rattle.state.specs.Reasons.{numberOf}
 use Rattle.state.specs.Changes.{lined, restartedOf}
@@ -68,3 +70,10 @@ pub data Displayed (u : TheUnit) : Reading → Type 0 where
   weight : sampledOf (u .seen) ≡ true → placeNow u ≡ place.Within → netNow u .0 +ℤ u .used .free .tare .0 ≡ grossNow u .0 →
       (u .used .free .tas ≡ 0 → valueNow u ≡ netNow u) → (u .used .free .tas ≡ 1 → valueNow u ≡ grossNow u) →
       Displayed u (reading.Weight (grossNow u) (netNow u) (valueNow u) (steadyOf (u .seen)))
+
+-- the weight that a reading displays, as MSV? would give it: none where there is no sample, else one; inDecimal, inFour and inTwo of weight/specs/Display have its values at each COF
+abbrev pub displayed : Reading → List Shown
+displayed reading.Nothing = []
+displayed (reading.Over s) = shown.Over ∷ []
+displayed (reading.Under s) = shown.Under ∷ []
+displayed (reading.Weight g n v s) = shown.Number v ∷ []
