@@ -33,21 +33,21 @@ use Rattle.wire.specs.Wire.{machine, takenOf, blockOf}
 use Rattle.wire.specs.WireLaws.{block-plain}
 use Rattle.demands.specs.Host.{after, Took, Sampled, Allowed}
 use Rattle.demands.specs.Sent.{room, run, Back}
-use Rattle.demands.specs.Typed.{codes, typed}
+use Rattle.demands.specs.Typed.{ascii, typed}
 
 abbrev Is : ℕ → ℕ → Type 0
 Is a b = a ≡ b
 
 -- what the machine does; each side computes
 record Facts : Type 0 where
-  asked : roomOf (run "TAS?;" 17) (room 17) ≡ codes "1\r\n" ++ room 14
-  refused : roomOf (run "TAS2;" 17) (room 17) ≡ codes "?\r\n" ++ room 14
-  empty : roomOf (runOf machine (sampleOf newUnit (pos 0) true) 17 (codes "MSV?;")) (room 17) ≡ codes " 0000000\r\n" ++ room 7
-  loaded : roomOf (runOf machine (sampleOf newUnit (pos 500000) true) 17 (codes "MSV?;")) (room 17) ≡ codes " 0001500\r\n" ++ room 7
+  asked : roomOf (run "TAS?;" 17) (room 17) ≡ ascii "1\r\n" ++ room 14
+  refused : roomOf (run "TAS2;" 17) (room 17) ≡ ascii "?\r\n" ++ room 14
+  empty : roomOf (runOf machine (sampleOf newUnit (pos 0) true) 17 (ascii "MSV?;")) (room 17) ≡ ascii " 0000000\r\n" ++ room 7
+  loaded : roomOf (runOf machine (sampleOf newUnit (pos 500000) true) 17 (ascii "MSV?;")) (room 17) ≡ ascii " 0001500\r\n" ++ room 7
   switched : Is (run "TAS0;" 17 .next .used .free .tas) 0
   both : Is (run "TAS0;COF9;" 34 .next .used .free .cof) 9
   first : Is (after newUnit (typed "TAS0;") .used .free .cof) 3
-  replied : roomOf (run "TAS?;COF?;" 34) (room 34) ≡ codes "1\r\n03\r\n" ++ room 27
+  replied : roomOf (run "TAS?;COF?;" 34) (room 34) ≡ ascii "1\r\n03\r\n" ++ room 27
   taken : Is (run "TAS?;TAS?;" 17 .taken) 5
   written : Is (length (run "TAS?;TAS?;" 17 .out)) 3
   counted : Is (run "SPW\"AED\";LFT1;" 34 .next .counter) 1
@@ -61,38 +61,38 @@ new-ranged : Ranged newUnit
 new-ranged = sound-yes newUnit new-sound .0
 
 plainly : (s : String) (n : ℕ) (r : Taken) (m : List ℕ) → length (room n) ≡ n → Back s n r m → (r ≡ takenOf (run s n)) × (m ≡ roomOf (run s n) (room n))
-plainly s n r m e a = let p = block-plain newUnit n (codes s) new-ranged in rw (e, p) at a
+plainly s n r m e a = let p = block-plain newUnit n (ascii s) new-ranged in rw (e, p) at a
 
-weighed : (x : ℤ) (u : TheUnit) (r : Taken) (m : List ℕ) → Allowed newUnit (Sampled x true u) → Allowed u (Took (codes "MSV?;") (room 17) r m) →
-    m ≡ roomOf (runOf machine (sampleOf newUnit x true) 17 (codes "MSV?;")) (room 17)
+weighed : (x : ℤ) (u : TheUnit) (r : Taken) (m : List ℕ) → Allowed newUnit (Sampled x true u) → Allowed u (Took (ascii "MSV?;") (room 17) r m) →
+    m ≡ roomOf (runOf machine (sampleOf newUnit x true) 17 (ascii "MSV?;")) (room 17)
 weighed x u r m a b =
     let s : u ≡ sampleOf newUnit x true = a ∙ rw (yes-ranged new-ranged) in
     let h = sound-yes _ (sampled-sound newUnit x true new-sound) .0 in
-    b .1 ∙ ap (λ (v : TheUnit). roomOf (blockOf v 17 (codes "MSV?;")) (room 17)) s ∙ ap (λ (o : Run TheUnit). roomOf o (room 17)) (block-plain (sampleOf newUnit x true) 17 (codes "MSV?;") h)
+    b .1 ∙ ap (λ (v : TheUnit). roomOf (blockOf v 17 (ascii "MSV?;")) (room 17)) s ∙ ap (λ (o : Run TheUnit). roomOf o (room 17)) (block-plain (sampleOf newUnit x true) 17 (ascii "MSV?;") h)
 
 -- the byte of the room where they differ
 byte-at : (i : ℕ) (s t : List ℕ) → s ≡ t → Is (getD s i 0) (getD t i 0)
 byte-at i s t e = ap (λ (l : List ℕ). getD l i 0) e
 
 -- ---- a unit that answers `?` to all: it would to TAS?
-pub refuses-all : (r : Taken) (m : List ℕ) → Back "TAS?;" 17 r m → take 3 m ≡ codes "?\r\n" → ⊥
+pub refuses-all : (r : Taken) (m : List ℕ) → Back "TAS?;" 17 r m → take 3 m ≡ ascii "?\r\n" → ⊥
 refuses-all r m a h =
-    let d : Is 63 49 = byte-at 0 (codes "?\r\n") (codes "1\r\n") (sym h ∙ ap (take 3) (plainly "TAS?;" 17 r m refl a .1 ∙ facts .asked)) in
+    let d : Is 63 49 = byte-at 0 (ascii "?\r\n") (ascii "1\r\n") (sym h ∙ ap (take 3) (plainly "TAS?;" 17 r m refl a .1 ∙ facts .asked)) in
     absurd (omega arith)
 
 -- ---- one that replies `0` to all: it would to TAS2, a value that TAS does not take
-pub done-to-all : (r : Taken) (m : List ℕ) → Back "TAS2;" 17 r m → take 3 m ≡ codes "0\r\n" → ⊥
+pub done-to-all : (r : Taken) (m : List ℕ) → Back "TAS2;" 17 r m → take 3 m ≡ ascii "0\r\n" → ⊥
 done-to-all r m a h =
-    let d : Is 48 63 = byte-at 0 (codes "0\r\n") (codes "?\r\n") (sym h ∙ ap (take 3) (plainly "TAS2;" 17 r m refl a .1 ∙ facts .refused)) in
+    let d : Is 48 63 = byte-at 0 (ascii "0\r\n") (ascii "?\r\n") (sym h ∙ ap (take 3) (plainly "TAS2;" 17 r m refl a .1 ∙ facts .refused)) in
     absurd (omega arith)
 
 -- or shows one weight: MSV? after x 0 and after x 500000 would be replied to alike
-pub one-weight-for-all : (u v : TheUnit) (q r : Taken) (m n : List ℕ) → Allowed newUnit (Sampled (pos 0) true u) → Allowed u (Took (codes "MSV?;") (room 17) q m) →
-    Allowed newUnit (Sampled (pos 500000) true v) → Allowed v (Took (codes "MSV?;") (room 17) r n) → take 10 m ≡ take 10 n → ⊥
+pub one-weight-for-all : (u v : TheUnit) (q r : Taken) (m n : List ℕ) → Allowed newUnit (Sampled (pos 0) true u) → Allowed u (Took (ascii "MSV?;") (room 17) q m) →
+    Allowed newUnit (Sampled (pos 500000) true v) → Allowed v (Took (ascii "MSV?;") (room 17) r n) → take 10 m ≡ take 10 n → ⊥
 one-weight-for-all u v q r m n a b c d h =
     let e = weighed (pos 0) u q m a b in
     let f = weighed (pos 500000) v r n c d in
-    let d : Is 48 49 = byte-at 4 (codes " 0000000\r\n") (codes " 0001500\r\n") (sym (ap (take 10) (e ∙ facts .empty)) ∙ h ∙ ap (take 10) (f ∙ facts .loaded)) in
+    let d : Is 48 49 = byte-at 4 (ascii " 0000000\r\n") (ascii " 0001500\r\n") (sym (ap (take 10) (e ∙ facts .empty)) ∙ h ∙ ap (take 10) (f ∙ facts .loaded)) in
     absurd (omega arith)
 
 -- ---- one that changes nothing: it would not at TAS0
@@ -109,9 +109,9 @@ first-line-only r m a h =
     absurd (omega arith)
 
 -- or it would give the first reply again
-pub first-reply-again : (r : Taken) (m : List ℕ) → Back "TAS?;COF?;" 34 r m → take 6 m ≡ codes "1\r\n1\r\n" → ⊥
+pub first-reply-again : (r : Taken) (m : List ℕ) → Back "TAS?;COF?;" 34 r m → take 6 m ≡ ascii "1\r\n1\r\n" → ⊥
 first-reply-again r m a h =
-    let d : Is 49 48 = byte-at 3 (codes "1\r\n1\r\n") (codes "1\r\n03\r") (sym h ∙ ap (take 6) (plainly "TAS?;COF?;" 34 r m refl a .1 ∙ facts .replied)) in
+    let d : Is 49 48 = byte-at 3 (ascii "1\r\n1\r\n") (ascii "1\r\n03\r") (sym h ∙ ap (take 6) (plainly "TAS?;COF?;" 34 r m refl a .1 ∙ facts .replied)) in
     absurd (omega arith)
 
 -- ---- one whose counts are invented: with room for one reply of two, 5 bytes are taken and 3 written, and no other numbers

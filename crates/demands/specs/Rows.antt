@@ -10,7 +10,7 @@ use Rattle.state.specs.declared.Unit.{Unit as TheUnit}
 use Rattle.state.specs.Changes.{newUnit}
 use Rattle.weighing.specs.Reading.{cellOf, vNow, gNow}
 use Rattle.demands.specs.Host.{sample, after, replies}
-use Rattle.demands.specs.Typed.{codes, typed}
+use Rattle.demands.specs.Typed.{ascii, typed}
 
 -- a new unit that was sent these commands first, and then a steady sample
 abbrev pub given : String → ℤ → TheUnit
@@ -22,7 +22,7 @@ uNow u = corrected (u .used .sealed .scale) (cellOf (u .seen))
 
 -- what it replies
 abbrev pub says : TheUnit → String → String → Type 0
-says u s t = replies u (typed s) ≡ codes t
+says u s t = replies u (typed s) ≡ ascii t
 
 pub record Rows : Type 0 where
   -- x 500000

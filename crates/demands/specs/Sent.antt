@@ -9,15 +9,15 @@ use Rattle.state.specs.Changes.{newUnit}
 use Rattle.wire.specs.declared.Taken.{Taken}
 use Rattle.wire.specs.Wire.{machine}
 use Rattle.demands.specs.Host.{Took, Allowed}
-use Rattle.demands.specs.Typed.{codes}
+use Rattle.demands.specs.Typed.{ascii}
 
 -- a block that is sent to a new unit with this much room, and what the machine makes of it
 abbrev pub room : ℕ → List ℕ
 room n = replicate n 0
 
 abbrev pub run : String → ℕ → Run TheUnit
-run s n = runOf machine newUnit n (codes s)
+run s n = runOf machine newUnit n (ascii s)
 
 -- the results that came back of it
 abbrev pub Back : String → ℕ → Taken → List ℕ → Type 0
-Back s n r m = Allowed newUnit (Took (codes s) (room n) r m)
+Back s n r m = Allowed newUnit (Took (ascii s) (room n) r m)

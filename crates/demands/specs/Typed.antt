@@ -6,9 +6,9 @@ use Prim.Native.String.{String}
 use Prim.Native.String as string
 use Rattle.demands.specs.Host.{Event, bytes}
 
-abbrev pub codes : String → List ℕ
-codes string.[] = []
-codes (string._∷_ c s) = code c ∷ codes s
+abbrev pub ascii : String → List ℕ
+ascii string.[] = []
+ascii (string._∷_ c s) = code c ∷ ascii s
 
 abbrev pub typed : String → List Event
-typed s = bytes (codes s)
+typed s = bytes (ascii s)
