@@ -74,6 +74,15 @@ fn passed(taken: usize, n: usize) -> usize
     if taken < n { taken } else { n }
 }
 
+// What is left of n bytes.
+fn left(u: Unit, s: State, n: usize) -> Bench {
+    Bench {
+        unit: u,
+        state: s,
+        more: 0 < n,
+    }
+}
+
 // A command's bytes are handed on where they lie, once its line or what was read ends; ';' takes the LF's place. The room is for one reply only,
 // so that each is seen to end. The unit goes by value through as few functions as can be: its copies are what a line costs.
 fn serve(b: Bench, buf: &mut [u8], out: &mut [u8]) -> Bench
@@ -115,11 +124,7 @@ fn serve(b: Bench, buf: &mut [u8], out: &mut [u8]) -> Bench
         };
     }
     pipe::write(out, o);
-    Bench {
-        unit: u,
-        state: s,
-        more: 0 < n,
-    }
+    left(u, s, n)
 }
 
 // Reads once. The replies are written before more is read, so that they come at a terminal too.

@@ -265,6 +265,18 @@ fn ended(
     take(u, first(bytes, k), n, out, o)
 }
 
+// What is left of n bytes.
+fn left(u: Unit, g: Stage, s: State, bytes: [u8; MOST], k: usize, n: usize) -> Blocks {
+    Blocks {
+        unit: u,
+        stage: g,
+        state: s,
+        bytes: bytes,
+        len: k,
+        more: 0 < n,
+    }
+}
+
 fn serve(b: Blocks, buf: &[u8], out: &mut [u8]) -> Blocks
     requires { ⌜ 17 ≤ length (now out) ⌝ }
 {
@@ -304,14 +316,7 @@ fn serve(b: Blocks, buf: &[u8], out: &mut [u8]) -> Blocks
         g = Stage::Other;
     }
     pipe::write(out, o);
-    Blocks {
-        unit: u,
-        stage: g,
-        state: s,
-        bytes: bytes,
-        len: k,
-        more: 0 < n,
-    }
+    left(u, g, s, bytes, k, n)
 }
 
 // Reads once. What is printed is written before more is read, so that it comes at a terminal too.

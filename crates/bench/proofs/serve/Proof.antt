@@ -50,6 +50,7 @@ serve-spec =
     (λ c. omega (arith, c .before .before .before .before .before .before .before .before .before .before .before .before .loop .inv))
     (λ c. simp length-set (omega (arith, c .before .before .before .before .before .before .before .before .before .before .before .before .loop .inv)))
     (λ c κs. search needs)
+    (λ c κs. search needs)
     (λ c. omega arith)
     (λ c. omega arith)
     (λ c. search needs))

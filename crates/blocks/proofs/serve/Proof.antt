@@ -36,5 +36,6 @@ serve-spec =
     (λ c. omega arith)
     (λ c. search needs)
     (λ c κs. search needs)
+    (λ c κs. search needs)
     (λ c. omega arith)
     (λ c. search needs))
