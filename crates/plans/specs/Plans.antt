@@ -87,7 +87,7 @@ pointGiven u (param.Text a k) = asCell (pos 0)
 abbrev pub ldwPlan : TheUnit → Param → Plan
 ldwPlan u p = plan (pointNeeds u p) (pointedOf u (pointAt (pointGiven u p))) doneText
 
--- LWT: L becomes the waiting point, W what is given, C the waiting CWT; a measured one sets GCA to GDE; the point goes
+-- LWT uses the waiting point up as L, has W from its number or the reading, and puts the waiting CWT into use; from a reading, GCA is made equal to GDE too
 abbrev pub curveGiven : TheUnit → Cell → Curve
 curveGiven u w = record { l = u .point .at; w = w; c = u .used .sealed .cwt }
 
@@ -103,7 +103,7 @@ lwtPlan u p =
     (alteredOf u (newCurve (u .used .sealed) (curveGiven u (pointGiven u p)) (gcaGiven u p)) noPoint) doneText
 
 -- ---- zero and tare
--- TAR makes gross the tare and shows net
+-- TAR: the tare is now gross, and what is shown is net
 abbrev pub tarPlan : TheUnit → Param → Plan
 tarPlan u p =
     plan (Shaped (isNothing p) ∷ Steady (u .seen) ∷ Shows (grossPlace u) ∷ Tares (grossNow u .0) (taresNow u) ∷ [])
@@ -149,7 +149,7 @@ sameTests a b =
 unfoldable pub sameWord : Password → Password → Bool
 sameWord a b = allOf (sameTests a b)
 
--- SPW with the password opens the lock
+-- SPW: the right text unlocks
 abbrev pub spwPlan : TheUnit → List ℕ → Param → Plan
 spwPlan u s p = plan (Shaped (isText p) ∷ Same (sameWord (wordOf (textIn p s)) (u .password)) ∷ []) (gated u true (u .reason)) doneText
 

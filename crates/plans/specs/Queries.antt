@@ -31,7 +31,7 @@ isUnder place.Under = true
 abbrev pub bit : Bool → ℕ → ℕ
 bit b n = pick b n 0
 
--- 1 net shown, 2 still, 4 over, 8 under, 16 first zeroing waiting, 32 sealed
+-- the status bits from 1 to 32: net, still (a steady reading, see reading 14), over, under, a first zeroing to come, sealed
 unfoldable pub statusOf : Bool → Bool → Place → Bool → Bool → ℕ
 statusOf nets still p waits sealed = bit nets 1 + bit still 2 + bit (isOver p) 4 + bit (isUnder p) 8 + bit waits 16 + bit sealed 32
 

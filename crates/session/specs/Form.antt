@@ -73,7 +73,7 @@ sampleIn s (x ∷ f ∷ []) =
     event.None
 sampleIn s (x ∷ f ∷ w ∷ t) = event.None
 
--- `c` blank and any bytes, none among them
+-- `c` blank and any bytes, or none
 abbrev pub isCommand : List ℕ → Bool
 isCommand [] = false
 isCommand (a ∷ []) = false

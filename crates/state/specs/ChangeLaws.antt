@@ -59,7 +59,7 @@ pub record Restarted (u v : TheUnit) : Type 0 where
 pub restarted-so : (u : TheUnit) → Restarted u (restartedOf u)
 restarted-so u = record { used = refl; saved = refl; first = refl; later = refl; point = refl; reason = refl; locked = refl; password = refl; counter = refl }
 
--- a new unit stands as after a restart
+-- a new unit is as a restart would leave it
 pub new-so : Restarted newUnit newUnit
 new-so = record { used = refl; saved = refl; first = refl; later = refl; point = refl; reason = refl; locked = refl; password = refl; counter = refl }
 

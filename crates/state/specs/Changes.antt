@@ -115,7 +115,7 @@ startedOf s w c waits =
 abbrev pub restartedOf : TheUnit → TheUnit
 restartedOf u = startedOf (u .saved) (u .password) (u .counter) (ltb 0 (u .saved .sealed .zse))
 
--- a new unit stands as after a restart, with factory values
+-- a new unit: as if restarted from factory settings
 abbrev pub newUnit : TheUnit
 newUnit = startedOf factoryOf factoryWord 0 false
 

@@ -27,7 +27,7 @@ modes = Between 0 4
 abbrev pub formats : Range
 formats = Among (0 ∷ 2 ∷ 3 ∷ 9 ∷ [])
 
--- what a command takes that makes the resets
+-- what each of the eight commands takes that change one sealed setting and make the resets
 abbrev pub setOf : Setting → Range
 setOf Gca = gravities
 setOf Gde = gravities
@@ -38,7 +38,7 @@ setOf Dpt = codes
 setOf Zse = codes
 setOf Ztr = switches
 
--- the settings with one of these changed
+-- the sealed settings with a group of them given anew
 abbrev pub withScale : Sealed → Scale → Sealed
 withScale q s = record { scale = s; cwt = q .cwt; enu = q .enu; dpt = q .dpt; zse = q .zse; ztr = q .ztr }
 

@@ -75,7 +75,7 @@ pub struct Unit {
     pub reason: u64,
 }
 
-// The settings whose command makes the resets, LWT's curve aside.
+// The sealed settings that one command sets and that make the resets; LWT's curve and LFT make them too, and have functions of their own.
 pub enum Setting {
     Gca,
     Gde,
