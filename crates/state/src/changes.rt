@@ -108,9 +108,9 @@ pub fn set_point(u: Unit, p: Point) -> Unit
 pub fn keep(u: Unit) -> Unit
     ensures { λ r. ⌜ r ≡ keptOf u ⌝ }
 {
-    let s = u.used;
+    let all = u.used;
     let mut v = u;
-    v.saved = s;
+    v.saved = all;
     v
 }
 
