@@ -2,22 +2,23 @@
 use mathlib.Core.Path.{_≡_}
 use lib.IntN.{ℤ}
 use borrow.Author.Tests.{ne-eqb}
-use Rattle.reply.specs.declared.Reply.{Reply}
 use Rattle.reply.specs.declared.Shown.{Shown}
 use Rattle.reply.specs.Reply.{signedText, statusText, word4Text, word2Text, replyOf}
 use Rattle.weight.specs.Display.{inDecimal, inFour, inTwo}
 use Rattle.weighing.specs.Reading.{shownNow}
 use Rattle.state.specs.declared.Unit.{Unit as TheUnit}
-use Rattle.plans.specs.declared.Answer.{Answer}
+use Rattle.state.specs.Changes.{gated}
+use Rattle.plans.specs.ObeyLaws.{Answer}
+use Rattle.asking.specs.declared.Noted.{Noted}
 use Rattle.plans.specs.Queries.{address, statusNow, msvText}
 
 -- a number that a reply prints
 abbrev pub printed : ℤ → Shown
 printed z = record { 0 = z }
 
--- an answer with no need
-abbrev pub saidOf : TheUnit → Reply → Answer
-saidOf u q = record { unit = u; reply = q }
+-- what a query comes to: the reason that is noted after it is all that it changes
+abbrev pub saidBy : TheUnit → Noted → Answer
+saidBy u s = record { unit = gated u (u .unlocked) (s .reason); reply = s .reply }
 
 -- MSV? by the format
 module _ (u : TheUnit) where

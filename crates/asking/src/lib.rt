@@ -1,14 +1,10 @@
 // Queries: what each gives.
 use line::names::Name;
-use plans::Answer;
-use plans::judge::refused;
-use plans::judge::rung;
-use plans::judge::settle;
 use reply::Reply;
 use reply::Shown as Printed;
 use state::Reason;
 use state::Unit;
-use state::changes;
+use state::reasons;
 use weight::Cell;
 use weight::Digits;
 use weight::Figure;
@@ -16,11 +12,19 @@ use weight::Place;
 use weight::display;
 ghost use mathlib.Core.Path.{_≡_};
 ghost use Prim.Native.Nat.{_≤_};
-ghost use Rattle.reply.specs.Reply.{replyOf};
+ghost use Rattle.reply.specs.Reply.{replyOf, refusedText};
+ghost use Rattle.state.specs.Reasons.{numberOf};
 ghost use Rattle.state.specs.RangedLaws.{Ranged};
 ghost use Rattle.plans.specs.Queries.{isOver, isUnder, bit, statusOf, statusNow, msvText, msvPlan, queryPlan};
-ghost use Rattle.plans.specs.Obey.{judge, answerOf};
-ghost use Rattle.asking.specs.Said.{saidOf, printed};
+ghost use Rattle.plans.specs.Obey.{judge};
+ghost use Rattle.plans.specs.ObeyLaws.{answerOf};
+ghost use Rattle.asking.specs.Said.{saidBy, printed};
+
+// What a query hands on: the reason that stands after it, all that it can change, and its reply.
+pub struct Noted {
+    pub reason: u64,
+    pub reply: Reply,
+}
 
 // ---- numbers as replies print them
 
@@ -117,56 +121,69 @@ fn msv_reply(u: Unit) -> Reply
 
 // ---- all queries
 
-fn said(u: Unit, q: Reply) -> Answer
-    ensures { λ r. ⌜ r ≡ saidOf u q ⌝ }
+fn said(reason: u64, q: Reply) -> Noted
+    ensures { λ r. ⌜ r ≡ record { reason = reason; reply = q } ⌝ }
 {
-    Answer { unit: u, reply: q }
+    Noted {
+        reason: reason,
+        reply: q,
+    }
 }
 
-fn on_msv(u: Unit) -> Answer
+fn refused(why: Reason) -> Noted
+    ensures { λ r. ⌜ r ≡ record { reason = numberOf why; reply = replyOf refusedText } ⌝ }
+{
+    said(reasons::reason_number(why), reply::refused())
+}
+
+fn on_msv(u: Unit) -> Noted
     requires { ⌜ Ranged u ⌝ }
-    ensures { λ r. ⌜ r ≡ answerOf (judge u (msvPlan u)) ⌝ }
+    ensures { λ r. ⌜ saidBy u r ≡ answerOf (judge u (msvPlan u)) ⌝ }
 {
     let seen = u.seen;
-    settle(
-        u,
-        u,
-        msv_reply(u),
-        rung(weighing::is_sampled(seen), Reason::Unsteady, Reason::None),
-    )
+    if weighing::is_sampled(seen) {
+        return said(u.reason, msv_reply(u));
+    }
+    refused(Reason::Unsteady)
 }
 
-pub fn ask(u: Unit, n: Name) -> Answer
+pub fn ask(u: Unit, n: Name) -> Noted
     requires { ⌜ Ranged u ⌝ }
-    ensures { λ r. ⌜ r ≡ answerOf (judge u (queryPlan u n)) ⌝ }
+    ensures { λ r. ⌜ saidBy u r ≡ answerOf (judge u (queryPlan u n)) ⌝ }
 {
     match n {
-        Name::Gca => said(u, reply::blank_6(u.used.sealed.scale.gca)),
-        Name::Gde => said(u, reply::blank_6(u.used.sealed.scale.gde)),
+        Name::Gca => said(u.reason, reply::blank_6(u.used.sealed.scale.gca)),
+        Name::Gde => said(u.reason, reply::blank_6(u.used.sealed.scale.gde)),
         Name::Cwt => said(
-            u,
+            u.reason,
             reply::pair(u.used.sealed.cwt, u.used.sealed.scale.curve.c),
         ),
-        Name::Ldw => said(u, reply::signed(from_cell(u.used.sealed.scale.curve.l))),
-        Name::Lwt => said(u, reply::signed(from_cell(u.used.sealed.scale.curve.w))),
-        Name::Nov => said(u, reply::blank_7(u.used.sealed.scale.nov)),
-        Name::Rsn => said(u, reply::digits_2(u.used.sealed.scale.rsn)),
-        Name::Enu => said(u, reply::digits_1(u.used.sealed.enu)),
-        Name::Dpt => said(u, reply::digits_1(u.used.sealed.dpt)),
-        Name::Zse => said(u, reply::digits_1(u.used.sealed.zse)),
-        Name::Ztr => said(u, reply::digits_1(u.used.sealed.ztr)),
-        Name::Lft => said(u, reply::digits_1(u.used.lft)),
-        Name::Cof => said(u, reply::digits_2(u.used.free.cof)),
-        Name::Tas => said(u, reply::digits_1(u.used.free.tas)),
-        Name::Tav => said(u, reply::signed(from_digits(u.used.free.tare))),
-        Name::Tar => refused(u, Reason::Form),
-        Name::Cdl => refused(u, Reason::Form),
-        Name::Res => refused(u, Reason::Form),
-        Name::Tdd => refused(u, Reason::Form),
-        Name::Spw => refused(u, Reason::Form),
-        Name::Dpw => refused(u, Reason::Form),
+        Name::Ldw => said(
+            u.reason,
+            reply::signed(from_cell(u.used.sealed.scale.curve.l)),
+        ),
+        Name::Lwt => said(
+            u.reason,
+            reply::signed(from_cell(u.used.sealed.scale.curve.w)),
+        ),
+        Name::Nov => said(u.reason, reply::blank_7(u.used.sealed.scale.nov)),
+        Name::Rsn => said(u.reason, reply::digits_2(u.used.sealed.scale.rsn)),
+        Name::Enu => said(u.reason, reply::digits_1(u.used.sealed.enu)),
+        Name::Dpt => said(u.reason, reply::digits_1(u.used.sealed.dpt)),
+        Name::Zse => said(u.reason, reply::digits_1(u.used.sealed.zse)),
+        Name::Ztr => said(u.reason, reply::digits_1(u.used.sealed.ztr)),
+        Name::Lft => said(u.reason, reply::digits_1(u.used.lft)),
+        Name::Cof => said(u.reason, reply::digits_2(u.used.free.cof)),
+        Name::Tas => said(u.reason, reply::digits_1(u.used.free.tas)),
+        Name::Tav => said(u.reason, reply::signed(from_digits(u.used.free.tare))),
+        Name::Tar => refused(Reason::Form),
+        Name::Cdl => refused(Reason::Form),
+        Name::Res => refused(Reason::Form),
+        Name::Tdd => refused(Reason::Form),
+        Name::Spw => refused(Reason::Form),
+        Name::Dpw => refused(Reason::Form),
         Name::Msv => on_msv(u),
-        Name::Tcr => said(u, reply::digits_7(u.counter)),
-        Name::Esr => said(changes::set_reason(u, 0), reply::digits_2(u.reason)),
+        Name::Tcr => said(u.reason, reply::digits_7(u.counter)),
+        Name::Esr => said(0, reply::digits_2(u.reason)),
     }
 }

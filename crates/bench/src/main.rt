@@ -1,11 +1,15 @@
 // The bench program: lines from standard input to a unit, and its replies to standard output (document 01, the paragraph on the bench program).
-// What a line is says `session`, and what the unit does with it `wire`; here bytes are only carried.
+// What a line is says `session`; what the unit does says `serving` of its bytes, `weighing` of a sample and `state` of a restart. Here bytes are
+// only carried.
 use libc::STDIN_FILENO;
 use session::Event;
 use session::State;
 use state::Unit;
+ghost use mathlib.Core.Path.{_≡_};
+ghost use mathlib.Core.Bool.{true};
 ghost use Prim.Native.Nat.{_≤_};
 ghost use lib.ListN.{length};
+ghost use Rattle.state.specs.Sound.{soundOf};
 
 // After some bytes: the unit, where the line stands, and whether there were any.
 struct Bench {
@@ -75,7 +79,9 @@ fn passed(taken: usize, n: usize) -> usize
 }
 
 // What is left of n bytes.
-fn left(u: Unit, s: State, n: usize) -> Bench {
+fn left(u: Unit, s: State, n: usize) -> Bench
+    ensures { λ r. ⌜ r .unit ≡ u ⌝ }
+{
     Bench {
         unit: u,
         state: s,
@@ -86,7 +92,8 @@ fn left(u: Unit, s: State, n: usize) -> Bench {
 // A command's bytes are handed on where they lie, once its line or what was read ends; ';' takes the LF's place. The room is for one reply only,
 // so that each is seen to end. The unit goes by value through as few functions as can be: its copies are what a line costs.
 fn serve(b: Bench, buf: &mut [u8], out: &mut [u8]) -> Bench
-    requires { ⌜ 17 ≤ length (now out) ⌝ }
+    requires { ⌜ (soundOf (b .unit) ≡ true) × (17 ≤ length (now out)) ⌝ }
+    ensures { λ r. ⌜ soundOf (r .unit) ≡ true ⌝ }
 {
     let n = buf.len();
     let mut u = b.unit;
@@ -98,9 +105,8 @@ fn serve(b: Bench, buf: &mut [u8], out: &mut [u8]) -> Bench
         if from < to {
             let p = pipe::place(out, o);
             let e = p + reply::ROOM;
-            let t = wire::take(u, &buf[from..to], &mut out[p..e]);
-            let v = t.next;
-            u = v;
+            let t = serving::serve(u, &buf[from..to], &mut out[p..e]);
+            u = t.next;
             o = closed(out, p, t.written);
             from += passed(t.taken, to - from);
             continue;
@@ -128,7 +134,10 @@ fn serve(b: Bench, buf: &mut [u8], out: &mut [u8]) -> Bench
 }
 
 // Reads once. The replies are written before more is read, so that they come at a terminal too.
-fn turn(b: Bench) -> Bench {
+fn turn(b: Bench) -> Bench
+    requires { ⌜ soundOf (b .unit) ≡ true ⌝ }
+    ensures { λ r. ⌜ soundOf (r .unit) ≡ true ⌝ }
+{
     let mut buf = io::large_buffer();
     let mut out = io::large_buffer();
     let got = libc::read(STDIN_FILENO, &mut buf);
@@ -137,7 +146,9 @@ fn turn(b: Bench) -> Bench {
 }
 
 // A last line without its LF counts as ended.
-fn close(b: Bench) {
+fn close(b: Bench)
+    requires { ⌜ soundOf (b .unit) ≡ true ⌝ }
+{
     let s = b.state;
     match s {
         State::Start => {

@@ -4,8 +4,11 @@ use libc::STDIN_FILENO;
 use session::Event;
 use session::State;
 use state::Unit;
+ghost use mathlib.Core.Path.{_≡_};
+ghost use mathlib.Core.Bool.{true};
 ghost use Prim.Native.Nat.{_≤_, _<_};
 ghost use lib.ListN.{length};
+ghost use Rattle.state.specs.Sound.{soundOf};
 
 // A block has at most so many bytes, and a room too; a line that asks for more is none.
 const MOST: usize = 1024;
@@ -201,7 +204,8 @@ fn number(n: usize, out: &mut [u8], o: usize) -> usize
 
 // A block, and the room of n bytes that it is given.
 fn take(u: Unit, bytes: &[u8], n: usize, out: &mut [u8], o: usize) -> Served
-    requires { ⌜ (n ≤ 1024) × (17 ≤ length (now out)) ⌝ }
+    requires { ⌜ (soundOf u ≡ true) × ((n ≤ 1024) × (17 ≤ length (now out))) ⌝ }
+    ensures { λ r. ⌜ soundOf (r .unit) ≡ true ⌝ }
 {
     let from: usize = 0;
     let mut room = [0u8; MOST];
@@ -219,7 +223,8 @@ fn take(u: Unit, bytes: &[u8], n: usize, out: &mut [u8], o: usize) -> Served
 
 // Here a command's line is none.
 fn other(u: Unit, s: State, out: &mut [u8], o: usize) -> Served
-    requires { ⌜ 17 ≤ length (now out) ⌝ }
+    requires { ⌜ (soundOf u ≡ true) × (17 ≤ length (now out)) ⌝ }
+    ensures { λ r. ⌜ soundOf (r .unit) ≡ true ⌝ }
 {
     let e = no_command(session::ended(s));
     Served {
@@ -254,7 +259,8 @@ fn ended(
     out: &mut [u8],
     o: usize,
 ) -> Served
-    requires { ⌜ 17 ≤ length (now out) ⌝ }
+    requires { ⌜ (soundOf u ≡ true) × (17 ≤ length (now out)) ⌝ }
+    ensures { λ r. ⌜ soundOf (r .unit) ≡ true ⌝ }
 {
     let Stage::Whole(n) = stage else {
         return other(u, s, out, o);
@@ -266,7 +272,9 @@ fn ended(
 }
 
 // What is left of n bytes.
-fn left(u: Unit, g: Stage, s: State, bytes: [u8; MOST], k: usize, n: usize) -> Blocks {
+fn left(u: Unit, g: Stage, s: State, bytes: [u8; MOST], k: usize, n: usize) -> Blocks
+    ensures { λ r. ⌜ r .unit ≡ u ⌝ }
+{
     Blocks {
         unit: u,
         stage: g,
@@ -278,7 +286,8 @@ fn left(u: Unit, g: Stage, s: State, bytes: [u8; MOST], k: usize, n: usize) -> B
 }
 
 fn serve(b: Blocks, buf: &[u8], out: &mut [u8]) -> Blocks
-    requires { ⌜ 17 ≤ length (now out) ⌝ }
+    requires { ⌜ (soundOf (b .unit) ≡ true) × (17 ≤ length (now out)) ⌝ }
+    ensures { λ r. ⌜ soundOf (r .unit) ≡ true ⌝ }
 {
     let n = buf.len();
     let mut u = b.unit;
@@ -320,7 +329,10 @@ fn serve(b: Blocks, buf: &[u8], out: &mut [u8]) -> Blocks
 }
 
 // Reads once. What is printed is written before more is read, so that it comes at a terminal too.
-fn turn(b: Blocks) -> Blocks {
+fn turn(b: Blocks) -> Blocks
+    requires { ⌜ soundOf (b .unit) ≡ true ⌝ }
+    ensures { λ r. ⌜ soundOf (r .unit) ≡ true ⌝ }
+{
     let mut buf = io::large_buffer();
     let mut out = io::large_buffer();
     let got = libc::read(STDIN_FILENO, &mut buf);
@@ -329,7 +341,9 @@ fn turn(b: Blocks) -> Blocks {
 }
 
 // A last line without its LF counts as ended.
-fn close(b: Blocks) {
+fn close(b: Blocks)
+    requires { ⌜ soundOf (b .unit) ≡ true ⌝ }
+{
     let s = b.state;
     match s {
         State::Start => {

@@ -1,9 +1,9 @@
 // Saving and trade mode: LFT, TDD, RES.
 use line::shape::Param;
-use plans::Answer;
-use plans::judge::refused;
+use plans::Judged;
+use plans::judge::ill_formed;
+use plans::judge::judged;
 use plans::judge::rung;
-use plans::judge::settle;
 use plans::judge::size_of;
 use state::Reason;
 use state::Unit;
@@ -11,14 +11,15 @@ use state::changes;
 use state::table;
 ghost use mathlib.Core.Path.{_≡_};
 ghost use Rattle.plans.specs.Plans.{lftPlan, tddPlan, resPlan};
-ghost use Rattle.plans.specs.Obey.{judge, answerOf};
+ghost use Rattle.plans.specs.Obey.{judge};
+ghost use Rattle.plans.specs.ObeyLaws.{answerOf, judgedAs};
 ghost use Rattle.changing.specs.Steps.{tddReason};
 
-pub fn on_lft(u: Unit, p: Param) -> Answer
-    ensures { λ r. ⌜ r ≡ answerOf (judge u (lftPlan u p)) ⌝ }
+pub fn on_lft(u: Unit, p: Param) -> Judged
+    ensures { λ r. ⌜ judgedAs u r ≡ answerOf (judge u (lftPlan u p)) ⌝ }
 {
     let Param::Number(x) = p else {
-        return refused(u, Reason::Form);
+        return ill_formed(u);
     };
     let s = size_of(x);
     let n = s.n;
@@ -31,10 +32,9 @@ pub fn on_lft(u: Unit, p: Param) -> Answer
         rung(counts, Reason::Stands, Reason::None),
     );
     let why = rung(u.unlocked, Reason::Locked, late);
-    settle(
-        u,
-        changes::pick_unit(same, u, changes::trade(u, n)),
-        reply::done(),
+    judged(
+        changes::pick_change(same, changes::unchanged(u), changes::trade(u, n)),
+        false,
         why,
     )
 }
@@ -51,27 +51,27 @@ fn tdd_reason(ok: bool, others: bool, opened: bool, unsealed: bool) -> Reason
     )
 }
 
-pub fn on_tdd(u: Unit, p: Param) -> Answer
-    ensures { λ r. ⌜ r ≡ answerOf (judge u (tddPlan u p)) ⌝ }
+pub fn on_tdd(u: Unit, p: Param) -> Judged
+    ensures { λ r. ⌜ judgedAs u r ≡ answerOf (judge u (tddPlan u p)) ⌝ }
 {
     let Param::Number(x) = p else {
-        return refused(u, Reason::Form);
+        return ill_formed(u);
     };
     let s = size_of(x);
     let n = s.n;
     let ok = whole::is_between(s.plus, n, 0, 2);
     let why = tdd_reason(ok, 0 < n, u.unlocked, u.used.lft == 0);
     let saved = u.saved;
-    let back = changes::pick_unit(n == 1, changes::keep(u), changes::recall(u, saved));
-    let next = changes::pick_unit(n == 0, changes::recall(u, table::factory()), back);
-    settle(u, next, reply::done(), why)
+    let back = changes::pick_change(n == 1, changes::save(u), changes::recall(u, saved));
+    let next = changes::pick_change(n == 0, changes::recall(u, table::factory()), back);
+    judged(next, false, why)
 }
 
-pub fn on_res(u: Unit, p: Param) -> Answer
-    ensures { λ r. ⌜ r ≡ answerOf (judge u (resPlan u p)) ⌝ }
+pub fn on_res(u: Unit, p: Param) -> Judged
+    ensures { λ r. ⌜ judgedAs u r ≡ answerOf (judge u (resPlan u p)) ⌝ }
 {
     let Param::Nothing = p else {
-        return refused(u, Reason::Form);
+        return ill_formed(u);
     };
-    settle(u, changes::restart(u), reply::empty(), Reason::None)
+    judged(changes::start_again(u), true, Reason::None)
 }

@@ -1,9 +1,9 @@
 // The password: SPW and DPW.
 use line::shape::Param;
-use plans::Answer;
-use plans::judge::refused;
+use plans::Judged;
+use plans::judge::ill_formed;
+use plans::judge::judged;
 use plans::judge::rung;
-use plans::judge::settle;
 use state::Password;
 use state::Reason;
 use state::Unit;
@@ -11,7 +11,8 @@ use state::changes;
 ghost use mathlib.Core.Path.{_≡_};
 ghost use lib.ListN.{length, getD, take, drop};
 ghost use Rattle.plans.specs.Plans.{wordOf, sameWord, spwPlan, dpwPlan};
-ghost use Rattle.plans.specs.Obey.{judge, answerOf};
+ghost use Rattle.plans.specs.Obey.{judge};
+ghost use Rattle.plans.specs.ObeyLaws.{answerOf, judgedAs};
 
 // How many bytes of the line a text has, if it begins at `start` and is `len` long.
 fn text_len(s: &[u8], start: usize, len: usize) -> usize
@@ -74,34 +75,32 @@ fn same_word(a: Password, b: Password) -> bool
         & (x[6] == y[6])
 }
 
-pub fn on_spw(u: Unit, s: &[u8], p: Param) -> Answer
-    ensures { λ r. ⌜ r ≡ answerOf (judge u (spwPlan u (now (s .entry)) p)) ⌝ }
+pub fn on_spw(u: Unit, s: &[u8], p: Param) -> Judged
+    ensures { λ r. ⌜ judgedAs u r ≡ answerOf (judge u (spwPlan u (now (s .entry)) p)) ⌝ }
 {
     let Param::Text { start, len } = p else {
-        return refused(u, Reason::Form);
+        return ill_formed(u);
     };
     let w = u.password;
     let same = same_word(word_of(s, start, len), w);
-    settle(
-        u,
+    judged(
         changes::set_lock(u, true),
-        reply::done(),
+        false,
         rung(same, Reason::Differs, Reason::None),
     )
 }
 
-pub fn on_dpw(u: Unit, s: &[u8], p: Param) -> Answer
-    ensures { λ r. ⌜ r ≡ answerOf (judge u (dpwPlan u (now (s .entry)) p)) ⌝ }
+pub fn on_dpw(u: Unit, s: &[u8], p: Param) -> Judged
+    ensures { λ r. ⌜ judgedAs u r ≡ answerOf (judge u (dpwPlan u (now (s .entry)) p)) ⌝ }
 {
     let Param::Text { start, len } = p else {
-        return refused(u, Reason::Form);
+        return ill_formed(u);
     };
     let w = word_of(s, start, len);
     let ok = whole::is_between(true, w.len as u64, 1, 7);
-    settle(
-        u,
+    judged(
         changes::set_password(u, w),
-        reply::done(),
+        false,
         rung(ok, Reason::Value, Reason::None),
     )
 }

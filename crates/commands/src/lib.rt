@@ -6,21 +6,27 @@ use line::cut::Pos;
 use line::names::Name;
 use line::shape::Param;
 use line::shape::Shape;
-use plans::Answer;
+use plans::Judged;
+use plans::Obeyed;
+use plans::judge::ill_formed;
 use plans::judge::refused;
+use plans::judge::settle;
 use state::Reason;
 use state::Setting;
 use state::Unit;
+use state::changes;
 ghost use mathlib.Core.Path.{_≡_};
+ghost use Prim.Native.Nat.{min};
 ghost use Rattle.state.specs.RangedLaws.{Ranged};
 ghost use Rattle.line.specs.Shape.{shapeOf};
 ghost use Rattle.plans.specs.Plans.{commandPlan};
-ghost use Rattle.plans.specs.Obey.{judge, servedPlan, shapePlan, obeyOf, answerOf};
+ghost use Rattle.plans.specs.ObeyLaws.{answerOf, judgedAs, obeyedAs};
+ghost use Rattle.plans.specs.Obey.{judge, servedPlan, shapePlan, obeyOf};
 
 // A command that is no query. `s` is the line, where texts lie.
-fn command(u: Unit, s: &[u8], n: Name, p: Param) -> Answer
+fn command(u: Unit, s: &[u8], n: Name, p: Param) -> Judged
     requires { ⌜ Ranged u ⌝ }
-    ensures { λ r. ⌜ r ≡ answerOf (judge u (commandPlan u (now (s .entry)) n p)) ⌝ }
+    ensures { λ r. ⌜ judgedAs u r ≡ answerOf (judge u (commandPlan u (now (s .entry)) n p)) ⌝ }
 {
     match n {
         Name::Gca => set::on_setting(u, Setting::Gca, p),
@@ -44,26 +50,31 @@ fn command(u: Unit, s: &[u8], n: Name, p: Param) -> Answer
         Name::Tdd => trade::on_tdd(u, p),
         Name::Spw => word::on_spw(u, s, p),
         Name::Dpw => word::on_dpw(u, s, p),
-        Name::Msv => refused(u, Reason::Form),
-        Name::Tcr => refused(u, Reason::Form),
-        Name::Esr => refused(u, Reason::Form),
+        Name::Msv => ill_formed(u),
+        Name::Tcr => ill_formed(u),
+        Name::Esr => ill_formed(u),
     }
 }
 
-fn serve(u: Unit, s: &[u8], n: Name, p: Param) -> Answer
+fn serve(u: Unit, s: &[u8], n: Name, p: Param) -> Obeyed
     requires { ⌜ Ranged u ⌝ }
-    ensures { λ r. ⌜ r ≡ answerOf (judge u (servedPlan u (now (s .entry)) n p)) ⌝ }
+    ensures { λ r. ⌜ obeyedAs u r ≡ answerOf (judge u (servedPlan u (now (s .entry)) n p)) ⌝ }
 {
     let Param::Query = p else {
-        return command(u, s, n, p);
+        return settle(u, command(u, s, n, p));
     };
-    asking::ask(u, n)
+    let a = asking::ask(u, n);
+    let q = a.reply;
+    Obeyed {
+        change: changes::set_reason(u, a.reason),
+        reply: q,
+    }
 }
 
 // A line that kept bytes and is not too long.
-fn read(u: Unit, s: &[u8], x: Shape) -> Answer
+fn read(u: Unit, s: &[u8], x: Shape) -> Obeyed
     requires { ⌜ Ranged u ⌝ }
-    ensures { λ r. ⌜ r ≡ answerOf (judge u (shapePlan u (now (s .entry)) x)) ⌝ }
+    ensures { λ r. ⌜ obeyedAs u r ≡ answerOf (judge u (shapePlan u (now (s .entry)) x)) ⌝ }
 {
     match x {
         Shape::Malformed => refused(u, Reason::Form),
@@ -72,22 +83,29 @@ fn read(u: Unit, s: &[u8], x: Shape) -> Answer
     }
 }
 
-fn read_kept(u: Unit, s: &[u8]) -> Answer
+fn read_kept(u: Unit, s: &[u8]) -> Obeyed
     requires { ⌜ Ranged u ⌝ }
-    ensures { λ r. ⌜ r ≡ answerOf (judge u (shapePlan u (now (s .entry)) (shapeOf (now (s .entry))))) ⌝ }
+    ensures { λ r. ⌜ obeyedAs u r ≡ answerOf (judge u (shapePlan u (now (s .entry)) (shapeOf (now (s .entry))))) ⌝ }
 {
     let x = line::shape::read_line(s);
     read(u, s, x)
 }
 
-pub fn obey(u: Unit, kept: [u8; 40], p: Pos) -> Answer
+// How many of the kept bytes are read. It stands apart, so that the line is read in one place: for a second one the unit would be copied.
+fn part(n: usize) -> usize
+    ensures { λ r. ⌜ r ≡ min n 40 ⌝ }
+{
+    if n < 40 { n } else { 40 }
+}
+
+pub fn obey(u: Unit, kept: [u8; 40], p: Pos) -> Obeyed
     requires { ⌜ Ranged u ⌝ }
-    ensures { λ r. ⌜ r ≡ answerOf (obeyOf u kept p) ⌝ }
+    ensures { λ r. ⌜ obeyedAs u r ≡ answerOf (obeyOf u kept p) ⌝ }
 {
     let n = p.len;
     if n == 0 {
-        return Answer {
-            unit: u,
+        return Obeyed {
+            change: changes::unchanged(u),
             reply: reply::empty(),
         };
     }
@@ -95,8 +113,6 @@ pub fn obey(u: Unit, kept: [u8; 40], p: Pos) -> Answer
     if g {
         return refused(u, Reason::Long);
     }
-    if n < 40 {
-        return read_kept(u, &kept[..n]);
-    }
-    read_kept(u, &kept[..])
+    let k = part(n);
+    read_kept(u, &kept[..k])
 }

@@ -7,7 +7,7 @@ use Rattle.line.specs.declared.names.Name.{Name}
 use Rattle.line.specs.declared.names.Name.the-variants as name
 use Rattle.line.specs.declared.shape.Param.the-variants as param
 use Rattle.line.specs.declared.shape.Shape.the-variants as shaped
-use Rattle.line.specs.Line.{zeros, freshPos}
+use Rattle.line.specs.Line.{noneKept, freshPos}
 use Rattle.reply.specs.Reply.{digitsText, signedText, statusText, word4Text, word2Text}
 use Rattle.weight.specs.Display.{inDecimal, inFour, inTwo}
 use Rattle.state.specs.declared.Unit.{Unit as TheUnit}
@@ -23,10 +23,10 @@ use Rattle.demands.proofs.Demand3.{counter-counts}
 
 -- a query whose needs hold, at its end mark
 module _ (u : TheUnit) (b : ℕ) (n : Name) (e : ends u b ≡ true) (l : u .pos .long ≡ false) (s : shape u ≡ shaped.Command n param.Query) where
-  pub asked : AllHold (queryPlan u n .needs) → (reply u (byte b) ≡ queryPlan u n .text) × (next u (byte b) ≡ lined (queryPlan u n .done) zeros freshPos)
+  pub asked : AllHold (queryPlan u n .needs) → (reply u (byte b) ≡ queryPlan u n .text) × (next u (byte b) ≡ lined (queryPlan u n .done) noneKept freshPos)
   asked h =
       let o = obeyed u (u .kept) (u .pos) n param.Query l s ∙ all-done u (queryPlan u n) h in
-      (end-text u b e ∙ ap (λ (x : Outcome). x .text) o, end-unit u b e ∙ ap (λ (x : Outcome). lined (x .next) zeros freshPos) o)
+      (end-text u b e ∙ ap (λ (x : Outcome). x .text) o, end-unit u b e ∙ ap (λ (x : Outcome). lined (x .next) noneKept freshPos) o)
 
 module _ (u : TheUnit) (b : ℕ) (e : ends u b ≡ true) (l : u .pos .long ≡ false) where
   -- ESR? gives the number of the last refusal, and clears it

@@ -22,14 +22,15 @@ use Rattle.weighing.specs.Samples.{firstNow, trackedNow, sampleOf}
 use Rattle.plans.specs.Plans.{wordOf, sameWord}
 use Rattle.plans.specs.Queries.{statusOf, msvText}
 use Rattle.plans.specs.Obey.{judge, obeyOf}
-use Rattle.wire.specs.Step.{stepNext, stepText}
+use Rattle.serving.specs.Step.{stepNext, stepText}
 use Rattle.state.specs.declared.Unit.{Unit as TheUnit}
 use Rattle.state.specs.Changes.{newUnit}
 use Rattle.state.specs.RangedLaws.{Ranged, yes-ranged}
 use Rattle.state.specs.SoundLaws.{new-sound, sound-yes}
 use Rattle.weighing.specs.SampleLaws.{sampled-sound}
-use Rattle.wire.specs.declared.Taken.{Taken}
-use Rattle.wire.specs.Wire.{machine, takenOf, blockOf}
+use Rattle.serving.specs.declared.Taken.{Taken}
+use Rattle.serving.specs.Machine.{machine, takenOf}
+use Rattle.wire.specs.Wire.{blockOf}
 use Rattle.wire.specs.WireLaws.{block-plain}
 use Rattle.demands.specs.Host.{after, Took, Sampled, Allowed}
 use Rattle.demands.specs.Sent.{room, run, Back}

@@ -8,7 +8,7 @@ use lib.ListN.{length}
 use Rattle.cases.specs.Run.{roomOf}
 use Rattle.state.specs.declared.Unit.{Unit as TheUnit}
 use Rattle.weighing.specs.declared.Reading.{Reading}
-use Rattle.wire.specs.declared.Taken.{Taken}
+use Rattle.serving.specs.declared.Taken.{Taken}
 use Rattle.wire.specs.Wire.{sampled, restarted, read, blockOf}
 use Rattle.lent.specs.declared.Counts.{Counts}
 use Rattle.lent.specs.Lent.{countsOf}

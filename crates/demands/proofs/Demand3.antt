@@ -20,8 +20,8 @@ use Rattle.plans.specs.Obey.{obeyOf, judge}
 use Rattle.plans.specs.JudgeLaws.{obeyed}
 use Rattle.plans.specs.Kinds.{Kind, plain, saving, trading, kindLine}
 use Rattle.plans.specs.Effects.{Store, storeOf, Effect, keeps, alters, recalls, saves, trades, effect}
-use Rattle.wire.specs.declared.Taken.{Taken}
-use Rattle.wire.specs.Step.{stepNext, stepText, endedUnit, movedUnit}
+use Rattle.serving.specs.declared.Taken.{Taken}
+use Rattle.serving.specs.Step.{stepNext, stepText, endedUnit, movedUnit}
 use Rattle.demands.specs.Host.{New, Event, byte, sample, power, next, after, bytes, ends, shape, Call, Took, Restarted, handed, Calls, last, events, allEvents}
 use Rattle.demands.specs.History.{kindOf, counted, changes, remembered, lastSaved, Quiet, IsSealed}
 use Rattle.demands.proofs.Reached.{after-append, bytes-of, end-unit}

@@ -7,21 +7,18 @@ use lib.ListN.{length}
 use Rattle.cases.specs.Pick.{pick}
 use Rattle.cases.specs.PickLaws.{split}
 use Rattle.cases.specs.Each.{nextBy, textBy}
-use Rattle.line.specs.declared.cut.Pos.{Pos}
-use Rattle.line.specs.Line.{zeros, freshPos, movedOf, storedOf}
+use Rattle.line.specs.Line.{noneKept, freshPos, movedOf, storedOf}
 use Rattle.line.specs.Cut.{Fed, cutOf, foundAt, foundOf, fedFrom, heldOf}
 use Rattle.line.specs.CutLaws.{fed-cut}
 use Rattle.line.specs.LineLaws.{kept-list}
 use Rattle.state.specs.declared.Unit.{Unit as TheUnit}
-use Rattle.state.specs.Changes.{lined}
 use Rattle.state.specs.Sound.{soundOf}
-use Rattle.state.specs.SoundLaws.{sound-yes, yes-sound, new-sound, restarted-sound}
+use Rattle.state.specs.SoundLaws.{new-sound, restarted-sound}
 use Rattle.weighing.specs.SampleLaws.{sampled-sound}
-use Rattle.plans.specs.Bands.{obey-sound}
 use Rattle.plans.specs.Obey.{obeyOf}
-use Rattle.wire.specs.Step.{endedUnit, movedUnit, stepNext, stepText}
-use Rattle.wire.specs.Wire.{machine}
-use Rattle.wire.specs.TurnLaws.{lined-ranged}
+use Rattle.serving.specs.Step.{endedUnit, movedUnit, stepNext, stepText}
+use Rattle.serving.specs.Machine.{machine}
+use Rattle.serving.specs.TurnLaws.{step-sound}
 use Rattle.demands.specs.Host.{New, Event, byte, sample, power, next, reply, after, replies, bytes, ends, line}
 
 -- ---- some events and then others
@@ -75,7 +72,7 @@ held-step : (b : ℕ) (t : List ℕ) (u : TheUnit) → ((v : TheUnit) → Held t
 unfolding after fedFrom
 held-step b t u k =
     let m = movedOf (u .pos) b in
-    let f : Bool → Fed = λ e. pick e (foundAt (foundOf (u .kept) (u .pos)) (fedFrom zeros freshPos t)) (fedFrom (storedOf (u .kept) m b) (m .pos) t) in
+    let f : Bool → Fed = λ e. pick e (foundAt (foundOf (u .kept) (u .pos)) (fedFrom noneKept freshPos t)) (fedFrom (storedOf (u .kept) m b) (m .pos) t) in
     split (λ e. (after (next u (byte b)) (bytes t) .kept ≡ f e .kept) × (after (next u (byte b)) (bytes t) .pos ≡ f e .pos)) (ends u b)
     (λ e. rw (end-unit u b e) (k (endedUnit u))) (λ e. rw (within-unit u b e) (k (movedUnit u m b)))
 
@@ -84,28 +81,22 @@ unfolding after fedFrom
 held [] u = (refl, refl)
 held (b ∷ t) u = held-step b t u (held t)
 
-pub line-sent : (t : List ℕ) (u : TheUnit) → u .kept ≡ zeros → u .pos ≡ freshPos → length (cutOf t .rest) ≤ 40 → line (after u (bytes t)) ≡ cutOf t .rest
+pub line-sent : (t : List ℕ) (u : TheUnit) → u .kept ≡ noneKept → u .pos ≡ freshPos → length (cutOf t .rest) ≤ 40 → line (after u (bytes t)) ≡ cutOf t .rest
 line-sent t u k p l =
     let f : fedFrom (u .kept) (u .pos) t ≡ heldOf (cutOf t) = rw (k, p) (fed-cut t) in
     let h = held t u in
     rw (h .0, h .1, f) (kept-list (cutOf t .rest) (cutOf t .quoted) l)
 
 -- ---- every reached unit is sound
-lined-sound : (u : TheUnit) (kept : List ℕ) (p : Pos) → soundOf u ≡ true → soundOf (lined u kept p) ≡ true
-lined-sound u kept p e = let h = sound-yes u e in yes-sound (lined u kept p) (lined-ranged u kept p (h .0)) (h .1)
-
-step-sound : (u : TheUnit) (e : Event) → soundOf u ≡ true → soundOf (next u e) ≡ true
-unfolding stepNext
-step-sound u (byte b) h =
-    split (λ t. soundOf (pick t (endedUnit u) (movedUnit u (movedOf (u .pos) b) b)) ≡ true) (ends u b)
-    (λ _. lined-sound _ zeros freshPos (obey-sound u (u .kept) (u .pos) h)) (λ _. lined-sound u _ _ h)
-step-sound u (sample x still) h = sampled-sound u x still h
-step-sound u power h = restarted-sound u h
+event-sound : (u : TheUnit) (e : Event) → soundOf u ≡ true → soundOf (next u e) ≡ true
+event-sound u (byte b) h = step-sound u b h
+event-sound u (sample x still) h = sampled-sound u x still h
+event-sound u power h = restarted-sound u h
 
 pub sound-after : (es : List Event) (u : TheUnit) → soundOf u ≡ true → soundOf (after u es) ≡ true
 unfolding after
 sound-after [] u h = h
-sound-after (e ∷ es) u h = sound-after es (next u e) (step-sound u e h)
+sound-after (e ∷ es) u h = sound-after es (next u e) (event-sound u e h)
 
 pub sound-new : (u : TheUnit) → New u → soundOf u ≡ true
 sound-new u n = rw n new-sound

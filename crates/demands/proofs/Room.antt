@@ -5,7 +5,7 @@ use Prim.Native.Nat.{ℕ, _+_}
 use lib.ListN.{take, drop, take-append-drop}
 use Rattle.reply.specs.Reply.{refusedText}
 use Rattle.state.specs.declared.Unit.{Unit as TheUnit}
-use Rattle.wire.specs.declared.Taken.{Taken}
+use Rattle.serving.specs.declared.Taken.{Taken}
 use Rattle.demands.specs.Host.{New, Event, byte, next, reply, after, replies, bytes, Took, Allowed, Right}
 use Rattle.demands.proofs.Reached.{replies-append, bytes-of, reached}
 use Rattle.demands.proofs.Served.{served}

@@ -14,7 +14,7 @@ use Rattle.weighing.specs.Samples.{firstNow, trackedNow}
 use Rattle.plans.specs.Plans.{wordOf, sameWord}
 use Rattle.plans.specs.Queries.{statusOf, msvText}
 use Rattle.plans.specs.Obey.{judge, obeyOf}
-use Rattle.wire.specs.Step.{stepNext, stepText}
+use Rattle.serving.specs.Step.{stepNext, stepText}
 use Rattle.plans.specs.Kinds.{isRefusal}
 use Rattle.demands.specs.Host.{after, replies}
 use Rattle.demands.specs.History.{changes, lastSaved}

@@ -2,7 +2,7 @@
 use mathlib.Core.Path.{_≡_, refl, sym, ap, _∙_}
 use mathlib.Core.Bool.{true}
 use mathlib.Core.List.{List, [], _∷_}
-use Prim.Native.Nat.{ℕ, _-_}
+use Prim.Native.Nat.{ℕ}
 use native.Mathlib.Omega.{arith}
 use lib.ListN.{length, take, drop, length-append, length-drop}
 use lib.Seq.{take-at, drop-at}
@@ -12,7 +12,8 @@ use Rattle.state.specs.declared.Unit.{Unit as TheUnit}
 use Rattle.state.specs.RangedLaws.{Ranged, yes-ranged}
 use Rattle.state.specs.Sound.{soundOf}
 use Rattle.state.specs.SoundLaws.{sound-yes}
-use Rattle.wire.specs.Wire.{machine, blockOf, takenOf}
+use Rattle.serving.specs.Machine.{machine, takenOf}
+use Rattle.wire.specs.Wire.{blockOf}
 use Rattle.wire.specs.WireLaws.{block-each, block-fits}
 use Rattle.demands.specs.Host.{next, after, replies, bytes, Call, Took, Sampled, Restarted, Allowed, handed, Calls, last, events, allEvents, Right, Served, AllServed}
 use Rattle.demands.proofs.Reached.{after-append, after-bytes, replies-bytes, sound-after}

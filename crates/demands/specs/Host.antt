@@ -15,9 +15,10 @@ use Rattle.state.specs.Changes.{newUnit, restartedOf}
 use Rattle.weighing.specs.Samples.{sampleOf}
 use Rattle.plans.specs.Plans.{Plan}
 use Rattle.plans.specs.Obey.{linePlan}
-use Rattle.wire.specs.declared.Taken.{Taken}
-use Rattle.wire.specs.Step.{stepNext, stepText}
-use Rattle.wire.specs.Wire.{sampled, restarted, blockOf, takenOf}
+use Rattle.serving.specs.declared.Taken.{Taken}
+use Rattle.serving.specs.Step.{stepNext, stepText}
+use Rattle.serving.specs.Machine.{takenOf}
+use Rattle.wire.specs.Wire.{sampled, restarted, blockOf}
 
 -- a new unit
 abbrev pub New : TheUnit → Type 0

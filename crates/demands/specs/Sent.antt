@@ -6,8 +6,8 @@ use lib.ListN.{replicate}
 use Rattle.cases.specs.Run.{Run, runOf}
 use Rattle.state.specs.declared.Unit.{Unit as TheUnit}
 use Rattle.state.specs.Changes.{newUnit}
-use Rattle.wire.specs.declared.Taken.{Taken}
-use Rattle.wire.specs.Wire.{machine}
+use Rattle.serving.specs.declared.Taken.{Taken}
+use Rattle.serving.specs.Machine.{machine}
 use Rattle.demands.specs.Host.{Took, Allowed}
 use Rattle.demands.specs.Typed.{ascii}
 

@@ -9,7 +9,7 @@ use lib.IntN.{_+ℤ_}
 use Rattle.line.specs.declared.names.Name.the-variants as name
 use Rattle.line.specs.declared.shape.Param.the-variants as param
 use Rattle.line.specs.declared.shape.Shape.the-variants as shaped
-use Rattle.line.specs.Line.{zeros, freshPos}
+use Rattle.line.specs.Line.{noneKept, freshPos}
 use Rattle.reply.specs.Reply.{refusedText}
 use Rattle.weight.specs.declared.Place.the-variants as place
 use Rattle.weight.specs.declared.Shown.{Shown}
@@ -42,12 +42,12 @@ pub record Refused (u v : TheUnit) : Type 0 where
   pub password : v .password ≡ u .password
   pub counter : v .counter ≡ u .counter
   -- and a new line begins
-  pub kept : v .kept ≡ zeros
+  pub kept : v .kept ≡ noneKept
   pub pos : v .pos ≡ freshPos
 
 -- ---- the end mark of a line that kept something: it is done, with all its needs holding, or refused
 pub data Ended (u : TheUnit) (b : ℕ) : Type 0 where
-  done : AllHold (plan u .needs) → next u (byte b) ≡ lined (plan u .done) zeros freshPos → reply u (byte b) ≡ plan u .text → (reply u (byte b) ≡ refusedText → ⊥) → Ended u b
+  done : AllHold (plan u .needs) → next u (byte b) ≡ lined (plan u .done) noneKept freshPos → reply u (byte b) ≡ plan u .text → (reply u (byte b) ≡ refusedText → ⊥) → Ended u b
   refused : reply u (byte b) ≡ refusedText → Refused u (next u (byte b)) → Ended u b
 
 -- ---- how a byte is replied to

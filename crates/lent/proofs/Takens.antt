@@ -12,9 +12,9 @@ use denote.Struct.Laws as LL
 use Rattle.lent.proofs.Units.{mach, IsUnit}
 use Rattle.state.specs.declared.Unit.{Unit as TheUnit}
 use Rattle.state.proofs.Unit.Laws as T′
-use Rattle.wire.specs.declared.Taken.{Taken}
-use Rattle.wire.proofs.Taken as R
-use Rattle.wire.proofs.Taken.Laws as R′
+use Rattle.serving.specs.declared.Taken.{Taken}
+use Rattle.serving.proofs.Taken as R
+use Rattle.serving.proofs.Taken.Laws as R′
 use Rattle.lent.specs.declared.Counts.{Counts}
 use Rattle.lent.proofs.Counts as N
 use Rattle.lent.proofs.Counts.Laws as N′

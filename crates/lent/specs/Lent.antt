@@ -1,4 +1,4 @@
--- The counts of a block of bytes. All else that the contracts cite is `wire`'s. What a reader must believe.
+-- The counts of a block of bytes. All else that the contracts cite is `wire`'s, `serving`'s or `cases`'. What a reader must believe.
 use lib.ListN.{length}
 use Rattle.cases.specs.Run.{Run}
 use Rattle.state.specs.declared.Unit.{Unit as TheUnit}

@@ -1,10 +1,11 @@
 // The events on a unit that is lent: one thin function for each, above the operations by value. None has a condition.
+use serving::Taken;
 use state::Unit;
-use wire::Taken;
 ghost use mathlib.Core.Path.{_≡_};
 ghost use lib.ListN.{length};
 ghost use Rattle.cases.specs.Run.{roomOf};
-ghost use Rattle.wire.specs.Wire.{sampled, restarted, blockOf, takenOf};
+ghost use Rattle.serving.specs.Machine.{takenOf};
+ghost use Rattle.wire.specs.Wire.{sampled, restarted, blockOf};
 ghost use Rattle.lent.specs.Lent.{countsOf};
 
 // How many bytes of a block were taken, and how many were written into the room.

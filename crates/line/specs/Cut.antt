@@ -8,7 +8,7 @@ use lib.ListN.{length, take, replicate}
 use lib.Dec.{leb}
 use Rattle.cases.specs.Pick.{pick}
 use Rattle.line.specs.declared.cut.Pos.{Pos}
-use Rattle.line.specs.Line.{most, zeros, freshPos, endsOf, dropsOf, quotedOf, movedOf, storedOf}
+use Rattle.line.specs.Line.{most, noneKept, freshPos, endsOf, dropsOf, quotedOf, movedOf, storedOf}
 
 -- a byte is dropped or counted
 unfoldable pub oneOf : Bool → ℕ → List ℕ
@@ -56,7 +56,7 @@ lineOf s = pick (leb (length s) most) (Kept s) TooLong
 
 -- how the line that has counted the bytes `s` is held: its bytes in front of zeros; of one that is too long, zeros alone
 unfoldable pub keptAt : List ℕ → List ℕ
-keptAt s = pick (leb (length s) most) (s ++ replicate (most - length s) 0) zeros
+keptAt s = pick (leb (length s) most) (s ++ replicate (most - length s) 0) noneKept
 
 unfoldable pub posAt : List ℕ → Bool → Pos
 posAt s q = pick (leb (length s) most) (record { len = length s; quoted = q; long = false }) (record { len = most; quoted = q; long = true })
@@ -78,11 +78,11 @@ foundAt l f = record { lines = l ∷ f .lines; kept = f .kept; pos = f .pos }
 unfoldable pub fedFrom : List ℕ → Pos → List ℕ → Fed
 fedFrom kept p [] = record { lines = []; kept = kept; pos = p }
 fedFrom kept p (b ∷ t) =
-    pick (movedOf p b .ended) (foundAt (foundOf kept p) (fedFrom zeros freshPos t))
+    pick (movedOf p b .ended) (foundAt (foundOf kept p) (fedFrom noneKept freshPos t))
     (fedFrom (storedOf kept (movedOf p b) b) (movedOf p b .pos) t)
 
 abbrev pub fedOf : List ℕ → Fed
-fedOf t = fedFrom zeros freshPos t
+fedOf t = fedFrom noneKept freshPos t
 
 -- how a cut string is held
 abbrev pub heldOf : Cuts → Fed

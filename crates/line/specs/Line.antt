@@ -13,8 +13,8 @@ abbrev pub most : ℕ
 most = 40
 
 -- a line that kept nothing: its bytes, and where it stands
-abbrev pub zeros : List ℕ
-zeros = replicate most 0
+abbrev pub noneKept : List ℕ
+noneKept = replicate most 0
 
 abbrev pub freshPos : Pos
 freshPos = record { len = 0; quoted = false; long = false }
@@ -47,4 +47,4 @@ movedOf p b =
 
 -- the kept bytes after a byte that did not end the line: it is stored at its place, and a line that is too long keeps none
 unfoldable pub storedOf : List ℕ → Moved → ℕ → List ℕ
-storedOf kept m b = pick (ltb (m .at) most) (set kept (m .at) b) (pick (m .pos .long) zeros kept)
+storedOf kept m b = pick (ltb (m .at) most) (set kept (m .at) b) (pick (m .pos .long) noneKept kept)

@@ -11,10 +11,10 @@ use lib.Dec.{leb}
 use borrow.Author.Tests.{lt-ltb, le-ltb, le-leb, lt-leb, leb-true, leb-false}
 use Rattle.cases.specs.PickLaws.{bool-cases}
 use Rattle.line.specs.declared.cut.Moved.{Moved}
-use Rattle.line.specs.Line.{most, zeros, freshPos, quotedOf, countedOf, storedOf}
+use Rattle.line.specs.Line.{most, noneKept, freshPos, quotedOf, countedOf, storedOf}
 use Rattle.line.specs.Cut.{Kept, keptAt, posAt, lineOf, foundOf}
 
-pub kept-fresh : zeros ≡ keptAt []
+pub kept-fresh : noneKept ≡ keptAt []
 unfolding keptAt
 kept-fresh = refl
 
@@ -26,7 +26,7 @@ kept-short : (s : List ℕ) → length s ≤ most → keptAt s ≡ s ++ replicat
 unfolding keptAt
 kept-short s h = simp (le-leb _ _ h)
 
-kept-long : (s : List ℕ) → most < length s → keptAt s ≡ zeros
+kept-long : (s : List ℕ) → most < length s → keptAt s ≡ noneKept
 unfolding keptAt
 kept-long s h = simp (lt-leb _ _ h)
 

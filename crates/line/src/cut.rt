@@ -1,7 +1,8 @@
 // Bytes to a kept line: where the line stands, one byte after the other.
 // The kept bytes lie with whoever holds the line, so that a byte is stored in place and no array travels.
 ghost use mathlib.Core.Path.{_≡_};
-ghost use Rattle.line.specs.Line.{freshPos, endsOf, dropsOf, quotedOf, countedOf, movedOf};
+ghost use Prim.Native.Nat.{_<_};
+ghost use Rattle.line.specs.Line.{most, freshPos, endsOf, dropsOf, quotedOf, countedOf, movedOf};
 
 // How many bytes there is room for in a line.
 pub const MOST: usize = 40;
@@ -48,27 +49,33 @@ fn quote(q: bool, b: u8) -> bool
     if b == b'"' { !q } else { q }
 }
 
-// The byte is kept and counted; the first one past `MOST` makes the line too long.
+// The byte is kept, and there is room for it.
+fn stored(p: Pos, b: u8) -> Moved
+    requires { ⌜ p .len < most ⌝ }
+    ensures { λ r. ⌜ r ≡ countedOf p b ⌝ }
+{
+    Moved {
+        pos: Pos {
+            len: p.len + 1,
+            quoted: quote(p.quoted, b),
+            long: p.long,
+        },
+        at: p.len,
+        ended: false,
+    }
+}
+
+// The byte is counted; the first one past `MOST` makes the line too long.
 fn counted(p: Pos, b: u8) -> Moved
     ensures { λ r. ⌜ r ≡ countedOf p b ⌝ }
 {
-    let q = quote(p.quoted, b);
-    let k = p.len;
-    if k < MOST {
-        return Moved {
-            pos: Pos {
-                len: k + 1,
-                quoted: q,
-                long: p.long,
-            },
-            at: k,
-            ended: false,
-        };
+    if p.len < MOST {
+        return stored(p, b);
     }
     Moved {
         pos: Pos {
             len: MOST,
-            quoted: q,
+            quoted: quote(p.quoted, b),
             long: true,
         },
         at: MOST,
@@ -76,9 +83,17 @@ fn counted(p: Pos, b: u8) -> Moved
     }
 }
 
+// Nearly all bytes neither end a line nor are dropped, whether a quote is open or not: these come first.
 pub fn advance(p: Pos, b: u8) -> Moved
     ensures { λ r. ⌜ r ≡ movedOf p b ⌝ }
 {
+    if b'"' < b {
+        if b != b';' {
+            if p.len < MOST {
+                return stored(p, b);
+            }
+        }
+    }
     if ends(p.quoted, b) {
         return Moved {
             pos: p,

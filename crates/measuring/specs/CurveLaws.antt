@@ -16,8 +16,8 @@ use Rattle.weight.specs.Sets.{cells, spans}
 use Rattle.state.specs.declared.Reason.the-variants.{None, Form, Value, Pointless}
 use Rattle.state.specs.declared.Unit.{Unit as TheUnit}
 use Rattle.plans.specs.Plans.{curveGiven, ldwPlan, lwtPlan}
-use Rattle.plans.specs.Obey.{refusedOf, judge, answerOf}
-use Rattle.plans.specs.ObeyLaws.{settledAs, gateOf, judged-as}
+use Rattle.plans.specs.Obey.{refusedOf, judge}
+use Rattle.plans.specs.ObeyLaws.{answerOf, settledAs, gateOf, settled-as}
 
 -- LDW and LWT take a number or nothing
 pub ldw-lacks : (u : TheUnit) (p : Param) → isNothing p ≡ false → isNumber p ≡ false → answerOf (refusedOf u Form) ≡ answerOf (judge u (ldwPlan u p))
@@ -47,4 +47,4 @@ pub lwt-typed : (u : TheUnit) (x : Number) →
     ≡ answerOf (judge u (lwtPlan u (param.Number x)))
 lwt-typed u x =
     span-late u (lwtPlan u (param.Number x) .done) (replyOf doneText) (u .unlocked) (eqb (u .used .lft) 0) (inside cells (x .0)) (u .point .held) (spans (curveGiven u (asCell (x .0))))
-    ∙ judged-as u (lwtPlan u (param.Number x))
+    ∙ settled-as u (lwtPlan u (param.Number x))

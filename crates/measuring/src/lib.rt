@@ -1,12 +1,12 @@
 // What reads the sample: LDW, LWT, TAR, CDL.
 use line::shape::Number;
 use line::shape::Param;
-use plans::Answer;
+use plans::Judged;
 use plans::judge::gate;
+use plans::judge::ill_formed;
 use plans::judge::is_within;
-use plans::judge::refused;
+use plans::judge::judged;
 use plans::judge::rung;
-use plans::judge::settle;
 use state::Reason;
 use state::Sealed;
 use state::Unit;
@@ -17,7 +17,7 @@ use weight::Tenths;
 use weight::sets;
 use weight::zero;
 ghost use mathlib.Core.Path.{_≡_};
-ghost use mathlib.Core.Bool.{Bool, false};
+ghost use mathlib.Core.Bool.{false};
 ghost use Prim.Native.Nat.{_≤_, _^_};
 ghost use lib.IntN.{natAbs};
 ghost use Rattle.cases.specs.Pick.{pick};
@@ -28,7 +28,8 @@ ghost use Rattle.weight.specs.Sets.{cells, spans};
 ghost use Rattle.weight.specs.Zero.{withinShare, laterShare};
 ghost use Rattle.state.specs.RangedLaws.{Ranged};
 ghost use Rattle.plans.specs.Plans.{curveGiven, newCurve, clearedNow, ldwPlan, lwtPlan, tarPlan, cdlPlan};
-ghost use Rattle.plans.specs.Obey.{judge, answerOf};
+ghost use Rattle.plans.specs.Obey.{judge};
+ghost use Rattle.plans.specs.ObeyLaws.{answerOf, judgedAs};
 
 fn point_typed(x: Number) -> Cell
     ensures { λ r. ⌜ r ≡ asCell (x .0) ⌝ }
@@ -38,12 +39,12 @@ fn point_typed(x: Number) -> Cell
 
 // ---- LDW
 
-fn ldw_measured(u: Unit, p: Param) -> Answer
+fn ldw_measured(u: Unit, p: Param) -> Judged
     requires { ⌜ isNumber p ≡ false ⌝ }
-    ensures { λ r. ⌜ r ≡ answerOf (judge u (ldwPlan u p)) ⌝ }
+    ensures { λ r. ⌜ judgedAs u r ≡ answerOf (judge u (ldwPlan u p)) ⌝ }
 {
     let Param::Nothing = p else {
-        return refused(u, Reason::Form);
+        return ill_formed(u);
     };
     let seen = u.seen;
     let why = gate(
@@ -53,23 +54,18 @@ fn ldw_measured(u: Unit, p: Param) -> Answer
         rung(weighing::is_steady(seen), Reason::Unsteady, Reason::None),
     );
     let next = changes::set_point(u, changes::point_at(weighing::cell_of(seen)));
-    settle(u, next, reply::done(), why)
+    judged(next, false, why)
 }
 
-pub fn on_ldw(u: Unit, p: Param) -> Answer
-    ensures { λ r. ⌜ r ≡ answerOf (judge u (ldwPlan u p)) ⌝ }
+pub fn on_ldw(u: Unit, p: Param) -> Judged
+    ensures { λ r. ⌜ judgedAs u r ≡ answerOf (judge u (ldwPlan u p)) ⌝ }
 {
     let Param::Number(x) = p else {
         return ldw_measured(u, p);
     };
     let c = point_typed(x);
     let why = gate(u.unlocked, u.used.lft == 0, sets::is_cell(c), Reason::None);
-    settle(
-        u,
-        changes::set_point(u, changes::point_at(c)),
-        reply::done(),
-        why,
-    )
+    judged(changes::set_point(u, changes::point_at(c)), false, why)
 }
 
 // ---- LWT
@@ -105,12 +101,12 @@ fn curve_to(u: Unit, w: Cell) -> Curve
     }
 }
 
-fn lwt_measured(u: Unit, p: Param) -> Answer
+fn lwt_measured(u: Unit, p: Param) -> Judged
     requires { ⌜ Ranged u × (isNumber p ≡ false) ⌝ }
-    ensures { λ r. ⌜ r ≡ answerOf (judge u (lwtPlan u p)) ⌝ }
+    ensures { λ r. ⌜ judgedAs u r ≡ answerOf (judge u (lwtPlan u p)) ⌝ }
 {
     let Param::Nothing = p else {
-        return refused(u, Reason::Form);
+        return ill_formed(u);
     };
     let seen = u.seen;
     let k = curve_to(u, weighing::cell_of(seen));
@@ -126,17 +122,12 @@ fn lwt_measured(u: Unit, p: Param) -> Answer
         rung(weighing::is_steady(seen), Reason::Unsteady, late),
     );
     let q = with_curve(u.used.sealed, k, u.used.sealed.scale.gde);
-    settle(
-        u,
-        changes::alter(u, q, changes::no_point()),
-        reply::done(),
-        why,
-    )
+    judged(changes::alter(u, q, changes::no_point()), false, why)
 }
 
-pub fn on_lwt(u: Unit, p: Param) -> Answer
+pub fn on_lwt(u: Unit, p: Param) -> Judged
     requires { ⌜ Ranged u ⌝ }
-    ensures { λ r. ⌜ r ≡ answerOf (judge u (lwtPlan u p)) ⌝ }
+    ensures { λ r. ⌜ judgedAs u r ≡ answerOf (judge u (lwtPlan u p)) ⌝ }
 {
     let Param::Number(x) = p else {
         return lwt_measured(u, p);
@@ -150,22 +141,17 @@ pub fn on_lwt(u: Unit, p: Param) -> Answer
     );
     let why = gate(u.unlocked, u.used.lft == 0, sets::is_cell(c), late);
     let q = with_curve(u.used.sealed, k, u.used.sealed.scale.gca);
-    settle(
-        u,
-        changes::alter(u, q, changes::no_point()),
-        reply::done(),
-        why,
-    )
+    judged(changes::alter(u, q, changes::no_point()), false, why)
 }
 
 // ---- TAR and CDL
 
-pub fn on_tar(u: Unit, p: Param) -> Answer
+pub fn on_tar(u: Unit, p: Param) -> Judged
     requires { ⌜ Ranged u ⌝ }
-    ensures { λ r. ⌜ r ≡ answerOf (judge u (tarPlan u p)) ⌝ }
+    ensures { λ r. ⌜ judgedAs u r ≡ answerOf (judge u (tarPlan u p)) ⌝ }
 {
     let Param::Nothing = p else {
-        return refused(u, Reason::Form);
+        return ill_formed(u);
     };
     let seen = u.seen;
     let g = weighing::gross_now(u);
@@ -179,7 +165,7 @@ pub fn on_tar(u: Unit, p: Param) -> Answer
     let mut f = u.used.free;
     f.tas = 0;
     f.tare = g;
-    settle(u, changes::set_free(u, f), reply::done(), why)
+    judged(changes::set_free(u, f), false, why)
 }
 
 fn cleared_now(u: Unit) -> Tenths
@@ -196,12 +182,12 @@ fn clears(u: Unit, z: Tenths) -> bool
     zero::within_share(zero::later_share(u.used.lft), u.used.sealed.scale.nov, z)
 }
 
-pub fn on_cdl(u: Unit, p: Param) -> Answer
+pub fn on_cdl(u: Unit, p: Param) -> Judged
     requires { ⌜ Ranged u ⌝ }
-    ensures { λ r. ⌜ r ≡ answerOf (judge u (cdlPlan u p)) ⌝ }
+    ensures { λ r. ⌜ judgedAs u r ≡ answerOf (judge u (cdlPlan u p)) ⌝ }
 {
     let Param::Nothing = p else {
-        return refused(u, Reason::Form);
+        return ill_formed(u);
     };
     let seen = u.seen;
     let z = cleared_now(u);
@@ -212,5 +198,5 @@ pub fn on_cdl(u: Unit, p: Param) -> Answer
     );
     let mut y = u.zeros;
     y.z1 = z;
-    settle(u, changes::set_zeros(u, y), reply::done(), why)
+    judged(changes::set_zeros(u, y), false, why)
 }

@@ -2,8 +2,12 @@
 use libc::STDOUT_FILENO;
 use session::Event;
 use state::Unit;
+use state::changes;
+ghost use mathlib.Core.Path.{_≡_};
+ghost use mathlib.Core.Bool.{true};
 ghost use Prim.Native.Nat.{_+_, _≤_};
 ghost use lib.ListN.{length};
+ghost use Rattle.state.specs.Sound.{soundOf};
 
 pub fn write(out: &[u8], o: usize) {
     let from: usize = 0;
@@ -43,11 +47,14 @@ pub fn marked(e: Event, out: &mut [u8], o: usize) -> usize
     put(out, p, b'\n')
 }
 
-// A sample or a restart; no other line changes the unit here.
-pub fn happened(u: Unit, e: Event) -> Unit {
+// A sample or a restart; no other line changes the unit here. A sound unit needs no look at its ranges, and stays sound.
+pub fn happened(u: Unit, e: Event) -> Unit
+    requires { ⌜ soundOf u ≡ true ⌝ }
+    ensures { λ r. ⌜ soundOf r ≡ true ⌝ }
+{
     match e {
-        Event::Sample(x, still) => wire::sample(u, x, still),
-        Event::Restart => wire::restart(u),
+        Event::Sample(x, still) => weighing::take_sample(u, x, still),
+        Event::Restart => changes::restart(u),
         _ => u,
     }
 }

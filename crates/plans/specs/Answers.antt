@@ -2,7 +2,7 @@
 use mathlib.Core.Path.{_≡_, refl, sym, ap, subst, _∙_}
 use mathlib.Core.Logic.{_⊎_, inl, inr, ⊎-elim}
 use mathlib.Core.Bool.{Bool, true, false}
-use mathlib.Core.List.{List, [], _∷_}
+use mathlib.Core.List.{List, []}
 use Prim.Native.Nat.{ℕ, zero, suc, _+_, _%_, _<_}
 use native.Mathlib.Nat.{mod-lt}
 use native.Mathlib.Omega.{arith}
@@ -32,7 +32,7 @@ use Rattle.plans.specs.Plans.{commandPlan}
 use Rattle.plans.specs.Queries.{queryPlan}
 use Rattle.plans.specs.Kinds.{refusalTests, isRefusal}
 use Rattle.plans.specs.Obey.{Outcome, judge, refusing, shapePlan, linePlan, obeyOf, AllHold, doneOf, FirstFails}
-use Rattle.plans.specs.Forms.{Form, done, digits-1, digits-2, digits-7, blank, signed, status, pair, word-4, word-2, query-form, command-by, Closed, form-closed}
+use Rattle.plans.specs.Forms.{Form, done, digits-1, digits-2, digits-7, blank, signed, status, pair, word-4, word-2, query-form, command-by}
 use Rattle.plans.specs.JudgeLaws.{why, judged, shaped-by, every-line}
 use Rattle.plans.specs.Refusals.{Refused}
 

@@ -14,7 +14,7 @@ use Rattle.line.specs.declared.shape.Param.{Param}
 use Rattle.weight.specs.declared.Digits.{Digits}
 use Rattle.state.specs.declared.Unit.{Unit as TheUnit}
 use Rattle.state.specs.Settings.{factoryOf}
-use Rattle.state.specs.Changes.{keptOf, recalledOf, tradedOf}
+use Rattle.state.specs.Changes.{savedOf, recalledOf, tradedOf}
 use Rattle.state.specs.Sound.{tareIn, soundOf, Banded, BandedOf}
 use Rattle.state.specs.SoundLaws.{sound-yes, yes-sound, zero-tare, reset-banded, recalled-banded, restarted-banded}
 use Rattle.plans.specs.Plans.{size, commandPlan}
@@ -31,11 +31,11 @@ module _ (u : TheUnit) (b : BandedOf u) where
   traded : (n : ℕ) → BandedOf (tradedOf u n)
   traded n = reset-banded _ _ false refl (zero-tare n (u .used .sealed .scale .nov)) refl
 
-  tdd : (n : ℕ) → (ltb 0 n || eqb (u .used .lft) 0) ≡ true → BandedOf (pick (eqb n 0) (recalledOf u factoryOf) (pick (eqb n 1) (keptOf u) (recalledOf u (u .saved))))
+  tdd : (n : ℕ) → (ltb 0 n || eqb (u .used .lft) 0) ≡ true → BandedOf (pick (eqb n 0) (recalledOf u factoryOf) (pick (eqb n 1) (savedOf u) (recalledOf u (u .saved))))
   tdd n h =
-      split (λ t. eqb n 0 ≡ t → BandedOf (pick t (recalledOf u factoryOf) (pick (eqb n 1) (keptOf u) (recalledOf u (u .saved))))) (eqb n 0)
+      split (λ t. eqb n 0 ≡ t → BandedOf (pick t (recalledOf u factoryOf) (pick (eqb n 1) (savedOf u) (recalledOf u (u .saved))))) (eqb n 0)
       (λ e k. let z : n ≡ 0 = eqb-true n 0 e in reset-banded factoryOf (u .saved) false refl (b .tare-saved) (b .lft-saved ∙ eqb-true (u .used .lft) 0 (rw z at h)))
-      (λ e k. split (λ t. BandedOf (pick t (keptOf u) (recalledOf u (u .saved)))) (eqb n 1)
+      (λ e k. split (λ t. BandedOf (pick t (savedOf u) (recalledOf u (u .saved)))) (eqb n 1)
       (λ _. record { tare-used = b .tare-used; tare-saved = b .tare-used; first-in = b .first-in; later-in = b .later-in; lft-saved = refl })
       (λ _. recalled-banded (u .saved) (u .saved) false (b .tare-saved) (b .tare-saved) refl)) refl
 

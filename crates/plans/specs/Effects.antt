@@ -19,7 +19,7 @@ use Rattle.line.specs.Shape.{shapeOf}
 use Rattle.state.specs.declared.Settings.{Settings}
 use Rattle.state.specs.declared.Unit.{Unit as TheUnit}
 use Rattle.state.specs.Settings.{factoryOf}
-use Rattle.state.specs.Changes.{ceiling, keptOf, recalledOf, tradedOf}
+use Rattle.state.specs.Changes.{ceiling, savedOf, recalledOf, tradedOf}
 use Rattle.plans.specs.Plans.{size, commandPlan, lwtPlan}
 use Rattle.plans.specs.Kinds.{Kind, plain, saving, trading, kindDone, isRefusal, kindLine}
 use Rattle.plans.specs.Obey.{Outcome, obeyOf, AllHold}
@@ -73,11 +73,11 @@ module _ (u : TheUnit) where
       (λ e k. trades (eqb-false n (u .used .lft) e) refl refl refl (λ l. ltb-true (u .counter) ceiling (third _ _ _ h e (ne-eqb n 0 (λ z. absurd (omega arith)))))) refl
 
   tdd : (n : ℕ) → (ltb 0 n || eqb (u .used .lft) 0) ≡ true →
-      Of u (pick (eqb n 0) (recalledOf u factoryOf) (pick (eqb n 1) (keptOf u) (recalledOf u (u .saved)))) (pick (eqb n 1) saving plain)
+      Of u (pick (eqb n 0) (recalledOf u factoryOf) (pick (eqb n 1) (savedOf u) (recalledOf u (u .saved)))) (pick (eqb n 1) saving plain)
   tdd n h =
-      split (λ b. eqb n 0 ≡ b → Of u (pick b (recalledOf u factoryOf) (pick (eqb n 1) (keptOf u) (recalledOf u (u .saved)))) (pick (eqb n 1) saving plain)) (eqb n 0)
+      split (λ b. eqb n 0 ≡ b → Of u (pick b (recalledOf u factoryOf) (pick (eqb n 1) (savedOf u) (recalledOf u (u .saved)))) (pick (eqb n 1) saving plain)) (eqb n 0)
       (λ e k. let z : n ≡ 0 = eqb-true n 0 e in rw z (alters (unsealed (u .used .lft) (rw z at h)) refl refl refl))
-      (λ e k. split (λ b. Of u (pick b (keptOf u) (recalledOf u (u .saved))) (pick b saving plain)) (eqb n 1) (λ _. saves refl refl refl) (λ _. recalls refl refl refl)) refl
+      (λ e k. split (λ b. Of u (pick b (savedOf u) (recalledOf u (u .saved))) (pick b saving plain)) (eqb n 1) (λ _. saves refl refl refl) (λ _. recalls refl refl refl)) refl
 
   command : (s : List ℕ) (n : Name) (q : Param) → AllHold (commandPlan u s n q .needs) → Of u (commandPlan u s n q .done) (kindDone (u .used .lft) n q)
   command s name.Gca q n = let z = unsealed (u .used .lft) (n .1 .1 .0) in alters z z refl refl

@@ -1,8 +1,8 @@
 -- Laws of a command's needs, for every list of them: which refusal a line meets, or that it is done; and what holds of it either way. Assumes nothing.
 use mathlib.Core.Path.{_≡_, refl, sym, ap, _∙_}
 use mathlib.Core.Bool.{Bool, true, false}
-use mathlib.Core.Logic.{_⊎_, inl, inr}
-use mathlib.Core.List.{List, [], _∷_, _++_}
+use mathlib.Core.Logic.{inl, inr}
+use mathlib.Core.List.{List, [], _∷_}
 use Prim.Native.Nat.{ℕ}
 use Rattle.cases.specs.Pick.{pick}
 use borrow.Author.Tests.{eqb-true, ne-eqb}
@@ -23,7 +23,7 @@ use Rattle.state.specs.Changes.{gated}
 use Rattle.plans.specs.Needs.{Need, Fits, Shaped, Known, Opened, Unsealed, In, Same, Steady, Sampled, Held, Shows, Tares, Share, Below, Spans, Unless, holdsOf, reasonOf, firstFailed}
 use Rattle.plans.specs.Plans.{Plan, commandPlan}
 use Rattle.plans.specs.Queries.{queryPlan}
-use Rattle.plans.specs.Obey.{AllHold, doneOf, FirstFails, Why, Outcome, refusedOf, settledOf, judge, refusing, servedPlan, shapePlan, linePlan, obeyOf}
+use Rattle.plans.specs.Obey.{AllHold, doneOf, Why, Outcome, refusedOf, settledOf, judge, refusing, servedPlan, shapePlan, linePlan, obeyOf}
 
 -- no need's reason passes
 pub bars : (n : Need) → passesOf (reasonOf n) ≡ false

@@ -36,7 +36,7 @@ use Rattle.state.specs.declared.Point.{Point}
 use Rattle.weight.specs.declared.Tenths.{Tenths}
 use Rattle.state.specs.declared.Unit.{Unit as TheUnit}
 use Rattle.state.specs.Settings.{modes, switches, formats, setOf, withCwt, factoryOf}
-use Rattle.state.specs.Changes.{noPoint, pointAt, grossed, inUse, alteredOf, freedOf, zeroedOf, keptOf, recalledOf, tradedOf}
+use Rattle.state.specs.Changes.{noPoint, pointAt, grossed, inUse, alteredOf, freedOf, zeroedOf, savedOf, recalledOf, tradedOf}
 use Rattle.state.specs.Ranged.{freeTests, freeIn, zerosTests, zerosIn, pointIn, sealedIn, settingsIn}
 use Rattle.state.specs.RangedLaws.{Ranged}
 use Rattle.state.specs.KeepLaws.{settings-in, settings-parts, grossed-in, scale-made, scale-parts, scale-in-sealed, cwt-in-sealed, with-scale-in, with-cwt-in, put-in, factory-in, no-zeros-in, no-point-in, next-in, in-use-keeps, counter-in, gated-keeps, reason-kept, refused-keeps, worded-keeps, restarted-keeps}
@@ -136,7 +136,7 @@ module _ (u : TheUnit) (h : Ranged u) where
       let s = settings-in (u .used .sealed) n (grossed (u .used .free)) sealed-now e (grossed-in (u .used .free) free-now) in
       in-use-keeps h _ _ _ noPoint _ s s (no-zeros-in false) no-point-in (next-in (u .counter))
 
-  kept : Ranged (keptOf u)
+  kept : Ranged (savedOf u)
   kept = in-use-keeps h (u .used) (u .used) (u .zeros) (u .point) (u .counter) (h .used-in) (h .used-in) (h .zeros-in) (h .point-in) (counter-in h)
 
   zeros-with : (z : Tenths) → inside (Sized 200000) (z .0) ≡ true → zerosIn (record { z0 = u .zeros .z0; z1 = z; waits = u .zeros .waits }) ≡ true
@@ -174,9 +174,9 @@ module _ (u : TheUnit) (h : Ranged u) where
   command s name.Cdl q n = cleared (clearedNow u) (n .1 .1 .0)
   command s name.Res q n = restarted-keeps h
   command s name.Tdd q n =
-      split (λ b. Ranged (pick b (recalledOf u factoryOf) (pick (eqb (size q) 1) (keptOf u) (recalledOf u (u .saved))))) (eqb (size q) 0)
+      split (λ b. Ranged (pick b (recalledOf u factoryOf) (pick (eqb (size q) 1) (savedOf u) (recalledOf u (u .saved))))) (eqb (size q) 0)
       (λ _. recalled factoryOf factory-in)
-      (λ _. split (λ b. Ranged (pick b (keptOf u) (recalledOf u (u .saved)))) (eqb (size q) 1) (λ _. kept) (λ _. recalled (u .saved) (h .saved-in)))
+      (λ _. split (λ b. Ranged (pick b (savedOf u) (recalledOf u (u .saved)))) (eqb (size q) 1) (λ _. kept) (λ _. recalled (u .saved) (h .saved-in)))
   command s name.Spw q n = gated-keeps h true (u .reason) (reason-kept h)
   command s name.Dpw q n = worded-keeps h _ (word-short (textIn q s) (n .1 .0))
   command s name.Msv q n = h

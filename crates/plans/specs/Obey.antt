@@ -14,12 +14,11 @@ use Rattle.line.specs.declared.shape.Shape.{Shape}
 use Rattle.line.specs.declared.shape.Shape.the-variants as shape
 use Rattle.line.specs.Param.{isQuery}
 use Rattle.line.specs.Shape.{shapeOf}
-use Rattle.reply.specs.Reply.{refusedText, replyOf}
+use Rattle.reply.specs.Reply.{refusedText}
 use Rattle.state.specs.declared.Reason.{Reason}
 use Rattle.state.specs.declared.Unit.{Unit as TheUnit}
 use Rattle.state.specs.Reasons.{passesOf}
 use Rattle.state.specs.Changes.{refusedUnit}
-use Rattle.plans.specs.declared.Answer.{Answer}
 use Rattle.plans.specs.Needs.{Need, Fits, Shaped, Known, holdsOf, reasonOf, firstFailed}
 use Rattle.plans.specs.Plans.{Plan, plan, commandPlan}
 use Rattle.plans.specs.Queries.{queryPlan}
@@ -84,7 +83,3 @@ pub record FirstFails (u : TheUnit) (ns : List Need) (o : Outcome) : Type 0 wher
 -- a line is done with all needs holding, or refused by the first that fails
 abbrev pub Why : TheUnit → List Need → Outcome → Outcome → Type 0
 Why u ns d o = (AllHold ns × (o ≡ d)) ⊎ FirstFails u ns o
-
--- an outcome as the code hands it on
-abbrev pub answerOf : Outcome → Answer
-answerOf o = record { unit = o .next; reply = replyOf (o .text) }

@@ -26,7 +26,7 @@ use Rattle.state.specs.declared.Sealed.{Sealed}
 use Rattle.state.specs.declared.Password.{Password}
 use Rattle.state.specs.declared.Unit.{Unit as TheUnit}
 use Rattle.state.specs.Settings.{switches, modes, formats, setOf, put, withCwt, withScale, factoryOf}
-use Rattle.state.specs.Changes.{noPoint, pointAt, gated, worded, alteredOf, resealedOf, freedOf, zeroedOf, pointedOf, keptOf, recalledOf, ceiling, tradedOf, restartedOf}
+use Rattle.state.specs.Changes.{noPoint, pointAt, gated, worded, alteredOf, resealedOf, freedOf, zeroedOf, pointedOf, savedOf, recalledOf, ceiling, tradedOf, restartedOf}
 use Rattle.weighing.specs.Reading.{cellOf, vNow, grossNow, grossPlace}
 use Rattle.plans.specs.Needs.{Need, Shaped, Opened, Unsealed, In, Same, Steady, Held, Shows, Tares, Share, Below, Spans, Unless}
 
@@ -129,7 +129,7 @@ lftPlan u p =
 abbrev pub tddPlan : TheUnit → Param → Plan
 tddPlan u p =
     plan (Shaped (isNumber p) ∷ In (numberIn p .0) (Between 0 2) ∷ Unless (ltb 0 (size p)) (Opened (u .unlocked)) ∷ Unless (ltb 0 (size p)) (Unsealed (u .used .lft)) ∷ [])
-    (pick (eqb (size p) 0) (recalledOf u factoryOf) (pick (eqb (size p) 1) (keptOf u) (recalledOf u (u .saved)))) doneText
+    (pick (eqb (size p) 0) (recalledOf u factoryOf) (pick (eqb (size p) 1) (savedOf u) (recalledOf u (u .saved)))) doneText
 
 -- RES restarts and replies nothing
 abbrev pub resPlan : TheUnit → Param → Plan

@@ -16,7 +16,7 @@ use lib.ListN.{take}
 use Rattle.reply.specs.Reply.{refusedText}
 use Rattle.state.specs.declared.Unit.{Unit as TheUnit}
 use Rattle.state.specs.Settings.{factoryOf}
-use Rattle.state.specs.Changes.{keptOf, recalledOf, tradedOf}
+use Rattle.state.specs.Changes.{savedOf, recalledOf, tradedOf}
 use Rattle.plans.specs.Plans.{size, commandPlan}
 use Rattle.plans.specs.Obey.{Outcome, obeyOf}
 use Rattle.plans.specs.JudgeLaws.{line-by, query-by}
@@ -42,8 +42,8 @@ reason-left u s name.Tar q e = refl
 reason-left u s name.Cdl q e = refl
 reason-left u s name.Res q e = absurd (e refl)
 reason-left u s name.Tdd q e =
-    split (λ b. pick b (recalledOf u factoryOf) (pick (eqb (size q) 1) (keptOf u) (recalledOf u (u .saved))) .reason ≡ u .reason) (eqb (size q) 0) (λ _. refl)
-    (λ _. split (λ b. pick b (keptOf u) (recalledOf u (u .saved)) .reason ≡ u .reason) (eqb (size q) 1) (λ _. refl) (λ _. refl))
+    split (λ b. pick b (recalledOf u factoryOf) (pick (eqb (size q) 1) (savedOf u) (recalledOf u (u .saved))) .reason ≡ u .reason) (eqb (size q) 0) (λ _. refl)
+    (λ _. split (λ b. pick b (savedOf u) (recalledOf u (u .saved)) .reason ≡ u .reason) (eqb (size q) 1) (λ _. refl) (λ _. refl))
 reason-left u s name.Spw q e = refl
 reason-left u s name.Dpw q e = refl
 reason-left u s name.Msv q e = refl

@@ -1,20 +1,23 @@
-// Needs as bools, the first that fails, and the candidate kept or dropped.
-use crate::Answer;
+// Needs as bools, the first that fails, and a command's change kept or refused.
+use crate::Judged;
+use crate::Obeyed;
 use line::shape::Number;
 use reply::Reply;
+use state::Change;
 use state::Reason;
 use state::Unit;
 use state::changes;
 use state::reasons;
 use weight::Place;
 ghost use mathlib.Core.Path.{_≡_};
-ghost use mathlib.Core.Bool.{Bool};
-ghost use lib.IntN.{natAbs};
-ghost use lib.Signed.{nonNeg};
+ghost use mathlib.Core.Bool.{false};
 ghost use Rattle.cases.specs.Pick.{pick};
+ghost use Rattle.reply.specs.Reply.{replyOf};
+ghost use Rattle.state.specs.declared.Reason.the-variants.{Form};
+ghost use Rattle.state.specs.Parts.{unchangedAs};
 ghost use Rattle.plans.specs.Needs.{isWithin};
-ghost use Rattle.plans.specs.Obey.{refusedOf, answerOf};
-ghost use Rattle.plans.specs.ObeyLaws.{settledAs, sizeOf, gateOf};
+ghost use Rattle.plans.specs.Obey.{refusedOf};
+ghost use Rattle.plans.specs.ObeyLaws.{answerOf, spokenText, judgedAs, obeyedAs, sizeOf, gateOf};
 
 // A number by its sign and size.
 pub struct Size {
@@ -61,22 +64,52 @@ pub fn is_within(p: Place) -> bool
     }
 }
 
-pub fn refused(u: Unit, why: Reason) -> Answer
-    ensures { λ r. ⌜ r ≡ answerOf (refusedOf u why) ⌝ }
+pub fn judged(c: Change, silent: bool, why: Reason) -> Judged
+    ensures { λ r. ⌜ r ≡ record { change = c; silent = silent; why = why } ⌝ }
 {
-    Answer {
-        unit: changes::refuse(u, why),
+    Judged {
+        change: c,
+        silent: silent,
+        why: why,
+    }
+}
+
+// A command in a form that it does not have: 02, whatever the unit holds.
+pub fn ill_formed(u: Unit) -> Judged
+    ensures { λ r. ⌜ r ≡ record { change = unchangedAs u; silent = false; why = Form } ⌝ }
+{
+    judged(changes::unchanged(u), false, Reason::Form)
+}
+
+pub fn refused(u: Unit, why: Reason) -> Obeyed
+    ensures { λ r. ⌜ obeyedAs u r ≡ answerOf (refusedOf u why) ⌝ }
+{
+    Obeyed {
+        change: changes::refuse(u, why),
         reply: reply::refused(),
     }
 }
 
-pub fn settle(u: Unit, done: Unit, q: Reply, why: Reason) -> Answer
-    ensures { λ r. ⌜ r ≡ settledAs u done q why ⌝ }
+// What a done command replies.
+fn spoken(silent: bool) -> Reply
+    ensures { λ r. ⌜ r ≡ replyOf (spokenText silent) ⌝ }
 {
+    if silent {
+        reply::empty()
+    } else {
+        reply::done()
+    }
+}
+
+pub fn settle(u: Unit, j: Judged) -> Obeyed
+    ensures { λ r. ⌜ obeyedAs u r ≡ judgedAs u j ⌝ }
+{
+    let why = j.why;
     if reasons::passes(why) {
-        return Answer {
-            unit: done,
-            reply: q,
+        let c = j.change;
+        return Obeyed {
+            change: c,
+            reply: spoken(j.silent),
         };
     }
     refused(u, why)

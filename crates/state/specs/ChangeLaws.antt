@@ -10,7 +10,7 @@ use Rattle.state.specs.declared.Point.{Point}
 use Rattle.state.specs.declared.Reason.{Reason}
 use Rattle.state.specs.declared.Settings.{Settings}
 use Rattle.state.specs.declared.Unit.{Unit as TheUnit}
-use Rattle.state.specs.Changes.{alteredOf, keptOf, recalledOf, tradedOf, restartedOf, newUnit, refusedUnit}
+use Rattle.state.specs.Changes.{alteredOf, savedOf, recalledOf, tradedOf, restartedOf, newUnit, refusedUnit}
 
 -- the resets: z0, z1 and tare 0, gross shown, no waiting for the first zeroing
 pub record Reset (u : TheUnit) : Type 0 where
@@ -70,8 +70,8 @@ pub record Stored (u v : TheUnit) (s t : Settings) : Type 0 where
   pub password : v .password ≡ u .password
   pub counter : v .counter ≡ u .counter
 
-pub kept-so : (u : TheUnit) → Stored u (keptOf u) (u .used) (u .used)
-kept-so u = record { used = refl; saved = refl; password = refl; counter = refl }
+pub saved-so : (u : TheUnit) → Stored u (savedOf u) (u .used) (u .used)
+saved-so u = record { used = refl; saved = refl; password = refl; counter = refl }
 
 pub recalled-so : (u : TheUnit) (s : Settings) → Stored u (recalledOf u s) s (u .saved)
 recalled-so u s = record { used = refl; saved = refl; password = refl; counter = refl }

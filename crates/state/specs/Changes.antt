@@ -5,7 +5,7 @@ use mathlib.Core.List.{List, [], _∷_}
 use lib.Dec.{ltb, eqb}
 use lib.IntN.{pos}
 use Rattle.line.specs.declared.cut.Pos.{Pos}
-use Rattle.line.specs.Line.{zeros, freshPos}
+use Rattle.line.specs.Line.{noneKept, freshPos}
 use Rattle.weight.specs.declared.Cell.{Cell}
 use Rattle.weight.specs.Weight.{asCell, asTenths, asDigits}
 use Rattle.state.specs.declared.Seen.{Seen}
@@ -85,8 +85,8 @@ abbrev pub pointedOf : TheUnit → Point → TheUnit
 pointedOf u p = inUse u (u .used) (u .saved) (u .zeros) p (u .counter)
 
 -- TDD1: all settings are saved
-abbrev pub keptOf : TheUnit → TheUnit
-keptOf u = inUse u (u .used) (u .used) (u .zeros) (u .point) (u .counter)
+abbrev pub savedOf : TheUnit → TheUnit
+savedOf u = inUse u (u .used) (u .used) (u .zeros) (u .point) (u .counter)
 
 -- TDD0 and TDD2: other settings in use, z0 and z1 0, no waiting point, no waiting first zeroing
 abbrev pub recalledOf : TheUnit → Settings → TheUnit
@@ -109,7 +109,7 @@ tradedOf u n =
 -- a unit that starts: these settings in use and saved, z0 and z1 0, no line, reading, reason or waiting point, locked
 abbrev pub startedOf : Settings → Password → ℕ → Bool → TheUnit
 startedOf s w c waits =
-    record { kept = zeros; pos = freshPos; used = s; saved = s; zeros = noZeros waits; seen = seen.Nothing; point = noPoint; unlocked = false; password = w; counter = c; reason = 0 }
+    record { kept = noneKept; pos = freshPos; used = s; saved = s; zeros = noZeros waits; seen = seen.Nothing; point = noPoint; unlocked = false; password = w; counter = c; reason = 0 }
 
 -- a restart: the saved settings come back; password and counter stay; the first zeroing waits where ZSE > 0
 abbrev pub restartedOf : TheUnit → TheUnit

@@ -1,6 +1,7 @@
 pub mod Reasons
 pub mod Settings
 pub mod Changes
+pub mod Parts
 pub mod ChangeLaws
 pub mod Ranged
 pub mod RangedLaws

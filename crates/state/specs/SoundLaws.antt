@@ -13,13 +13,12 @@ use Rattle.weight.specs.Weight.{asDigits}
 use Rattle.weight.specs.Sets.{tares}
 use Rattle.weight.specs.ZeroLaws.{zero-within}
 use Rattle.state.specs.declared.Settings.{Settings}
-use Rattle.state.specs.declared.Zeros.{Zeros}
 use Rattle.state.specs.declared.Unit.{Unit as TheUnit}
 use Rattle.state.specs.Settings.{factoryOf}
 use Rattle.state.specs.Changes.{noZeros, newUnit, restartedOf}
 use Rattle.state.specs.RangedLaws.{Ranged, ranged-yes, yes-ranged}
 use Rattle.state.specs.KeepLaws.{new-ranged, restarted-keeps}
-use Rattle.state.specs.Sound.{Banded, BandedOf, tareIn, firstIn, laterIn, soundTests, soundOf}
+use Rattle.state.specs.Sound.{Banded, BandedOf, tareIn, soundTests, soundOf}
 
 pub sound-yes : (u : TheUnit) → soundOf u ≡ true → Ranged u × BandedOf u
 unfolding soundOf

@@ -1,4 +1,5 @@
-// The changes, with nothing decided: each gives the unit that a done command, an event or a refusal leaves.
+// The changes, with nothing decided: what a done command or a refusal changes, and the unit that it or an event leaves.
+use crate::Change;
 use crate::Free;
 use crate::Password;
 use crate::Point;
@@ -15,9 +16,9 @@ use weight::Cell;
 use weight::Digits;
 use weight::Tenths;
 ghost use mathlib.Core.Path.{_≡_};
-ghost use lib.Dec.{ltb};
 ghost use Rattle.cases.specs.Pick.{pick};
-ghost use Rattle.state.specs.Changes.{noZeros, noPoint, pointAt, factoryWord, grossed, sighted, worded, gated, alteredOf, resealedOf, freedOf, zeroedOf, pointedOf, keptOf, recalledOf, nextCount, tradedOf, startedOf, restartedOf, newUnit, refusedUnit};
+ghost use Rattle.state.specs.Parts.{unchangedAs, changedBy};
+ghost use Rattle.state.specs.Changes.{noZeros, noPoint, pointAt, grossed, sighted, worded, gated, alteredOf, resealedOf, freedOf, zeroedOf, pointedOf, savedOf, recalledOf, nextCount, tradedOf, startedOf, restartedOf, newUnit, refusedUnit};
 
 pub fn no_zeros(waits: bool) -> Zeros
     ensures { λ r. ⌜ r ≡ noZeros waits ⌝ }
@@ -54,76 +55,98 @@ fn gross_shown(f: Free) -> Free
     g
 }
 
-pub fn alter(u: Unit, q: Sealed, p: Point) -> Unit
-    ensures { λ r. ⌜ r ≡ alteredOf u q p ⌝ }
+// ---- what commands change
+
+// A command that changes nothing, and what every other begins from.
+pub fn unchanged(u: Unit) -> Change
+    ensures { λ r. ⌜ r ≡ unchangedAs u ⌝ }
+{
+    let s = u.used;
+    let z = u.zeros;
+    let p = u.point;
+    let w = u.password;
+    Change {
+        used: s,
+        zeros: z,
+        point: p,
+        password: w,
+        counter: u.counter,
+        reason: u.reason,
+        unlocked: u.unlocked,
+        saves: false,
+        restarts: false,
+    }
+}
+
+pub fn alter(u: Unit, q: Sealed, p: Point) -> Change
+    ensures { λ r. ⌜ changedBy u r ≡ alteredOf u q p ⌝ }
 {
     let f = gross_shown(u.used.free);
     let z = no_zeros(false);
     let mut s = u.used;
     s.sealed = q;
     s.free = f;
-    let mut v = u;
-    v.used = s;
-    v.zeros = z;
-    v.point = p;
-    v
+    let mut c = unchanged(u);
+    c.used = s;
+    c.zeros = z;
+    c.point = p;
+    c
 }
 
-pub fn reseal(u: Unit, q: Sealed) -> Unit
-    ensures { λ r. ⌜ r ≡ resealedOf u q ⌝ }
+pub fn reseal(u: Unit, q: Sealed) -> Change
+    ensures { λ r. ⌜ changedBy u r ≡ resealedOf u q ⌝ }
 {
     let mut s = u.used;
     s.sealed = q;
-    let mut v = u;
-    v.used = s;
-    v
+    let mut c = unchanged(u);
+    c.used = s;
+    c
 }
 
-pub fn set_free(u: Unit, f: Free) -> Unit
-    ensures { λ r. ⌜ r ≡ freedOf u f ⌝ }
+pub fn set_free(u: Unit, f: Free) -> Change
+    ensures { λ r. ⌜ changedBy u r ≡ freedOf u f ⌝ }
 {
     let mut s = u.used;
     s.free = f;
-    let mut v = u;
-    v.used = s;
-    v
+    let mut c = unchanged(u);
+    c.used = s;
+    c
 }
 
-pub fn set_zeros(u: Unit, z: Zeros) -> Unit
-    ensures { λ r. ⌜ r ≡ zeroedOf u z ⌝ }
+pub fn set_zeros(u: Unit, z: Zeros) -> Change
+    ensures { λ r. ⌜ changedBy u r ≡ zeroedOf u z ⌝ }
 {
-    let mut v = u;
-    v.zeros = z;
-    v
+    let mut c = unchanged(u);
+    c.zeros = z;
+    c
 }
 
-pub fn set_point(u: Unit, p: Point) -> Unit
-    ensures { λ r. ⌜ r ≡ pointedOf u p ⌝ }
+pub fn set_point(u: Unit, p: Point) -> Change
+    ensures { λ r. ⌜ changedBy u r ≡ pointedOf u p ⌝ }
 {
-    let mut v = u;
-    v.point = p;
-    v
+    let mut c = unchanged(u);
+    c.point = p;
+    c
 }
 
-pub fn keep(u: Unit) -> Unit
-    ensures { λ r. ⌜ r ≡ keptOf u ⌝ }
+pub fn save(u: Unit) -> Change
+    ensures { λ r. ⌜ changedBy u r ≡ savedOf u ⌝ }
 {
-    let all = u.used;
-    let mut v = u;
-    v.saved = all;
-    v
+    let mut saving = unchanged(u);
+    saving.saves = true;
+    saving
 }
 
-pub fn recall(u: Unit, s: Settings) -> Unit
-    ensures { λ r. ⌜ r ≡ recalledOf u s ⌝ }
+pub fn recall(u: Unit, s: Settings) -> Change
+    ensures { λ r. ⌜ changedBy u r ≡ recalledOf u s ⌝ }
 {
     let z = no_zeros(false);
     let p = no_point();
-    let mut v = u;
-    v.used = s;
-    v.zeros = z;
-    v.point = p;
-    v
+    let mut c = unchanged(u);
+    c.used = s;
+    c.zeros = z;
+    c.point = p;
+    c
 }
 
 fn next_count(c: u64) -> u64
@@ -132,48 +155,74 @@ fn next_count(c: u64) -> u64
     if c < 9_999_999 { c + 1 } else { 9_999_999 }
 }
 
-pub fn trade(u: Unit, n: u64) -> Unit
-    ensures { λ r. ⌜ r ≡ tradedOf u n ⌝ }
+pub fn trade(u: Unit, n: u64) -> Change
+    ensures { λ r. ⌜ changedBy u r ≡ tradedOf u n ⌝ }
 {
-    let c = next_count(u.counter);
+    let k = next_count(u.counter);
     let f = gross_shown(u.used.free);
     let z = no_zeros(false);
     let p = no_point();
     let mut s = u.used;
     s.lft = n;
     s.free = f;
-    let mut v = u;
-    v.used = s;
-    v.saved = s;
-    v.zeros = z;
-    v.point = p;
-    v.counter = c;
-    v
+    let mut c = unchanged(u);
+    c.used = s;
+    c.zeros = z;
+    c.point = p;
+    c.counter = k;
+    c.saves = true;
+    c
 }
 
-pub fn set_lock(u: Unit, lock: bool) -> Unit
-    ensures { λ r. ⌜ r ≡ gated u lock (u .reason) ⌝ }
+pub fn set_lock(u: Unit, lock: bool) -> Change
+    ensures { λ r. ⌜ changedBy u r ≡ gated u lock (u .reason) ⌝ }
 {
-    let mut v = u;
-    v.unlocked = lock;
-    v
+    let mut c = unchanged(u);
+    c.unlocked = lock;
+    c
 }
 
-pub fn set_reason(u: Unit, n: u64) -> Unit
-    ensures { λ r. ⌜ r ≡ gated u (u .unlocked) n ⌝ }
+pub fn set_reason(u: Unit, n: u64) -> Change
+    ensures { λ r. ⌜ changedBy u r ≡ gated u (u .unlocked) n ⌝ }
 {
-    let mut v = u;
-    v.reason = n;
-    v
+    let mut c = unchanged(u);
+    c.reason = n;
+    c
 }
 
-pub fn set_password(u: Unit, w: Password) -> Unit
-    ensures { λ r. ⌜ r ≡ worded u w ⌝ }
+pub fn set_password(u: Unit, w: Password) -> Change
+    ensures { λ r. ⌜ changedBy u r ≡ worded u w ⌝ }
 {
-    let mut v = u;
-    v.password = w;
-    v
+    let mut c = unchanged(u);
+    c.password = w;
+    c
 }
+
+pub fn start_again(u: Unit) -> Change
+    ensures { λ r. ⌜ changedBy u r ≡ restartedOf u ⌝ }
+{
+    let mut c = unchanged(u);
+    c.restarts = true;
+    c
+}
+
+pub fn refuse(u: Unit, why: Reason) -> Change
+    ensures { λ r. ⌜ changedBy u r ≡ refusedUnit u why ⌝ }
+{
+    let n = reasons::reason_number(why);
+    let mut c = unchanged(u);
+    c.unlocked = (n != 11) & u.unlocked;
+    c.reason = n;
+    c
+}
+
+pub fn pick_change(b: bool, x: Change, y: Change) -> Change
+    ensures { λ r. ⌜ r ≡ pick b x y ⌝ }
+{
+    if b { x } else { y }
+}
+
+// ---- units
 
 // What is seen is an enum, so the unit is written anew.
 pub fn see(u: Unit, s: Seen, z: Zeros) -> Unit
@@ -240,18 +289,28 @@ pub fn new_unit() -> Unit
     started(table::factory(), w, 0, false)
 }
 
-pub fn refuse(u: Unit, why: Reason) -> Unit
-    ensures { λ r. ⌜ r ≡ refusedUnit u why ⌝ }
+// The unit that a change leaves.
+pub fn made(u: Unit, c: Change) -> Unit
+    ensures { λ r. ⌜ r ≡ changedBy u c ⌝ }
 {
-    let n = reasons::reason_number(why);
+    if c.restarts {
+        return restart(u);
+    }
+    let s = c.used;
+    let z = c.zeros;
+    let p = c.point;
+    let w = c.password;
     let mut v = u;
-    v.unlocked = (n != 11) & u.unlocked;
-    v.reason = n;
+    v.used = s;
+    v.zeros = z;
+    v.point = p;
+    v.password = w;
+    v.counter = c.counter;
+    v.reason = c.reason;
+    v.unlocked = c.unlocked;
+    if c.saves {
+        v.saved = s;
+        return v;
+    }
     v
-}
-
-pub fn pick_unit(b: bool, x: Unit, y: Unit) -> Unit
-    ensures { λ r. ⌜ r ≡ pick b x y ⌝ }
-{
-    if b { x } else { y }
 }

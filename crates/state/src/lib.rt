@@ -60,7 +60,7 @@ pub struct Password {
     pub len: usize,
 }
 
-// `kept` and `pos` are the line so far; they lie directly here, so that a byte is stored in place.
+// `kept` and `pos` are the line so far; the loop over a block holds them apart while a line comes in.
 pub struct Unit {
     pub kept: [u8; 40],
     pub pos: Pos,
@@ -73,6 +73,20 @@ pub struct Unit {
     pub password: Password,
     pub counter: u64,
     pub reason: u64,
+}
+
+// What a command hands on: the parts of the unit that it could change, as they stand after it. But for a restart it changes neither the line nor
+// the sample. Where it `saves`, the settings in use become the saved ones too; where it `restarts`, the other parts do not count.
+pub struct Change {
+    pub used: Settings,
+    pub zeros: Zeros,
+    pub point: Point,
+    pub password: Password,
+    pub counter: u64,
+    pub reason: u64,
+    pub unlocked: bool,
+    pub saves: bool,
+    pub restarts: bool,
 }
 
 // The sealed settings that one command sets and that make the resets; LWT's curve and LFT make them too, and have functions of their own.

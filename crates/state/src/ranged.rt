@@ -12,7 +12,6 @@ use weight::Digits;
 use weight::Tenths;
 use weight::sets;
 ghost use mathlib.Core.Path.{_≡_};
-ghost use Prim.Native.Nat.{_≤_, _^_};
 ghost use Rattle.whole.specs.Sets.{Sized, inside};
 ghost use Rattle.state.specs.Ranged.{sealedIn, freeIn, settingsIn, zerosIn, pointIn, seenIn, lockIn, rangedOf};
 

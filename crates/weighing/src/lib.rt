@@ -11,11 +11,9 @@ use weight::Tenths;
 use weight::display;
 use weight::zero;
 ghost use mathlib.Core.Path.{_≡_};
-ghost use mathlib.Core.Bool.{Bool, not, _&&_};
-ghost use Rattle.cases.specs.Pick.{pick};
 ghost use Rattle.state.specs.RangedLaws.{Ranged};
 ghost use Rattle.weighing.specs.Reading.{seenAt, seenOf, cellOf, steadyOf, sampledOf, vNow, gNow, grossNow, netNow, placeAt, grossPlace, placeNow, valueNow, shownNow, readAt, readBy, readingOf};
-ghost use Rattle.weighing.specs.Samples.{seeing, tries, firstNow, tracksNow, trackedNow, zerosNow, zeroing, sampleOf};
+ghost use Rattle.weighing.specs.Samples.{firstNow, trackedNow, zerosNow, sampleOf};
 
 // What the display has: nothing since the restart, over, under, or the weight with what is shown of it; each with its steadiness.
 pub enum Reading {
@@ -233,6 +231,8 @@ pub fn take_sample(u: Unit, x: i32, still: bool) -> Unit
     ensures { λ r. ⌜ r ≡ sampleOf u x still ⌝ }
 {
     let z = u.zeros;
-    let v = changes::see(u, seen_of(x, still), z);
-    changes::set_zeros(v, zeros_now(v))
+    let mut v = changes::see(u, seen_of(x, still), z);
+    let w = zeros_now(v);
+    v.zeros = w;
+    v
 }

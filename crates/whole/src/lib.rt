@@ -1,11 +1,10 @@
 // Signed whole numbers: their sign and size, the sets that they are taken from, and a product divided and rounded.
 ghost use mathlib.Core.Path.{_≡_};
-ghost use mathlib.Core.Bool.{Bool};
 ghost use Prim.Native.Nat.{_+_, _*_, _<_, _^_};
 ghost use lib.IntN.{ℤ, pos, natAbs, _*ℤ_};
 ghost use lib.Signed.{nonNeg};
 ghost use Rattle.whole.specs.Round.{roundNat, roundDiv, like};
-ghost use Rattle.whole.specs.Sets.{Between, Sized, has};
+ghost use Rattle.whole.specs.Sets.{Between, has};
 
 // Not below zero.
 pub fn is_plus(x: i64) -> bool

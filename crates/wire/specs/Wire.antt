@@ -4,10 +4,8 @@ use mathlib.Core.Bool.{Bool}
 use mathlib.Core.List.{List}
 use Prim.Native.Nat.{ℕ}
 use lib.IntN.{ℤ}
-use lib.ListN.{length}
 use Rattle.cases.specs.Pick.{pick}
-use Rattle.cases.specs.Run.{Run, Machine, stop, runOf}
-use Rattle.reply.specs.Reply.{ROOM}
+use Rattle.cases.specs.Run.{Run, stop, runOf}
 use Rattle.state.specs.declared.Unit.{Unit as TheUnit}
 use Rattle.state.specs.Changes.{restartedOf}
 use Rattle.state.specs.Ranged.{rangedOf}
@@ -15,9 +13,7 @@ use Rattle.weighing.specs.declared.Reading.{Reading}
 use Rattle.weighing.specs.declared.Reading.the-variants as reading
 use Rattle.weighing.specs.Reading.{readingOf}
 use Rattle.weighing.specs.Samples.{sampleOf}
-use Rattle.wire.specs.declared.Taken.{Taken}
-use Rattle.wire.specs.Step.{stepNext, stepText}
-use Rattle.wire.specs.StepLaws.{step-short}
+use Rattle.serving.specs.Machine.{machine}
 
 abbrev pub sampled : TheUnit → ℤ → Bool → TheUnit
 sampled u x still = pick (rangedOf u) (sampleOf u x still) u
@@ -28,14 +24,6 @@ restarted u = pick (rangedOf u) (restartedOf u) u
 abbrev pub read : TheUnit → Reading
 read u = pick (rangedOf u) (readingOf u) reading.Nothing
 
--- the unit as a machine over bytes: before each byte there must be room for the longest reply
-abbrev pub machine : Machine TheUnit
-machine = record { next = stepNext; text = stepText; need = ROOM; short = step-short }
-
 -- what a block of bytes does, with this much room
 abbrev pub blockOf : TheUnit → ℕ → List ℕ → Run TheUnit
 blockOf u free bytes = pick (rangedOf u) (runOf machine u free bytes) (stop u)
-
--- the next unit, the number taken and the number written
-abbrev pub takenOf : Run TheUnit → Taken
-takenOf r = record { next = r .next; taken = r .taken; written = length (r .out) }

@@ -1,24 +1,24 @@
 -- What a host may rely on when it hands a block over. Assumes nothing.
 use mathlib.Core.Bool.{true, false}
 use mathlib.Core.Path.{_≡_, refl, sym, ap, _∙_}
-use mathlib.Core.Logic.{⊎-elim}
 use mathlib.Core.List.{List, [], _∷_, _++_}
 use Prim.Native.Nat.{ℕ, _-_, _≤_, _<_}
 use native.Mathlib.Omega.{arith}
-use lib.Dec.{ltb}
 use lib.ListN.{length, take}
-use borrow.Author.Tests.{ltb-true, ltb-false}
-use Rattle.cases.specs.PickLaws.{bool-cases, split}
+use Rattle.cases.specs.PickLaws.{split}
 use Rattle.cases.specs.Pick.{pick}
 use Rattle.cases.specs.Run.{stop, after, roomOf, runOf}
 use Rattle.cases.specs.RunLaws.{run-full, run-byte, run-append, out-fits}
 use Rattle.state.specs.declared.Unit.{Unit as TheUnit}
 use Rattle.state.specs.Ranged.{rangedOf}
 use Rattle.state.specs.RangedLaws.{Ranged, yes-ranged}
-use Rattle.wire.specs.Wire.{machine, blockOf, takenOf}
+use Rattle.state.specs.Sound.{soundOf}
+use Rattle.state.specs.SoundLaws.{sound-yes}
+use Rattle.serving.specs.Machine.{machine, takenOf}
+use Rattle.wire.specs.Wire.{blockOf}
 use Rattle.cases.specs.Each.{nextBy, textBy}
 use Rattle.cases.specs.EachLaws.{Stopped, run-each, next-append, text-append}
-use Rattle.wire.specs.TurnLaws.{step-ranged}
+use Rattle.serving.specs.KeepLaws.{run-ranged, run-sound}
 
 -- ---- the guard
 -- a unit in range is served by the plain rules
@@ -46,21 +46,6 @@ block-each u free s h = rw (block-plain u free s h) (run-each machine s u free)
 pub block-fits : (u : TheUnit) (free : ℕ) (s : List ℕ) → length (blockOf u free s .out) ≤ free
 block-fits u free s = split (λ b. length (pick b (runOf machine u free s) (stop u) .out) ≤ free) (rangedOf u) (λ _. out-fits machine s u free) (λ _. omega arith)
 
--- ---- a run keeps the ranges
-step-keeps : (u : TheUnit) (f b : ℕ) (t : List ℕ) → Ranged u → Ranged (runOf machine (machine .next u b) (f - length (machine .text u b)) t .next) → Ranged (runOf machine u f (b ∷ t) .next)
-step-keeps u f b t h k = ⊎-elim full more (bool-cases (ltb f 17))
-  where
-    full : ltb f 17 ≡ true → Ranged (runOf machine u f (b ∷ t) .next)
-    full e = rw (run-full machine u f (b ∷ t) (ltb-true f 17 e)) h
-
-    more : ltb f 17 ≡ false → Ranged (runOf machine u f (b ∷ t) .next)
-    more e = rw (run-byte machine u f b t (ltb-false f 17 e)) k
-
-pub run-ranged : (s : List ℕ) (u : TheUnit) (f : ℕ) → Ranged u → Ranged (runOf machine u f s .next)
-unfolding runOf
-run-ranged [] u f h = h
-run-ranged (b ∷ t) u f h = step-keeps u f b t h (run-ranged t (machine .next u b) (f - length (machine .text u b)) (step-ranged u b h))
-
 -- ---- a block that is taken whole and then another are both at once
 pub block-append : (u : TheUnit) (free : ℕ) (s t : List ℕ) → Ranged u → blockOf u free s .taken ≡ length s →
     blockOf u free (s ++ t) ≡ after (length s) (blockOf u free s .out) (blockOf (blockOf u free s .next) (free - length (blockOf u free s .out)) t)
@@ -87,6 +72,9 @@ cutTaken u (c ∷ cs) = take (blockOf u (c .free) (c .bytes) .taken) (c .bytes) 
 unfoldable pub cutText : TheUnit → List Block → List ℕ
 cutText u [] = []
 cutText u (c ∷ cs) = blockOf u (c .free) (c .bytes) .out ++ cutText (blockOf u (c .free) (c .bytes) .next) cs
+
+pub block-sound : (u : TheUnit) (free : ℕ) (s : List ℕ) → soundOf u ≡ true → soundOf (blockOf u free s .next) ≡ true
+block-sound u free s e = rw (block-plain u free s (sound-yes u e .0)) (run-sound s u free e)
 
 pub block-ranged : (u : TheUnit) (free : ℕ) (s : List ℕ) → Ranged u → Ranged (blockOf u free s .next)
 block-ranged u free s h = rw (block-plain u free s h) (run-ranged s u free h)

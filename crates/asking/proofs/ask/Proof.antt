@@ -77,7 +77,6 @@ ask-spec =
     (λ c. search needs)
     (λ c κs. search needs)
     (λ c κs. search needs)
-    (λ c κs. search needs)
     (λ c. rw (c .said .ensures, c .before .blank-6 .ensures, c .before .before .enum-told .given .1))
     (λ c. rw (c .said2 .ensures, c .before .blank-62 .ensures, c .before .before .enum-told2 .given .1))
     (λ c. rw (c .said3 .ensures, c .before .pair .ensures, c .before .before .enum-told3 .given .1))
@@ -101,4 +100,4 @@ ask-spec =
     (λ c. rw (c .refused6 .ensures, c .before .enum-told21 .given .1))
     (λ c. rw (c .on-msv .ensures, c .before .enum-told22 .given .1))
     (λ c. rw (c .said16 .ensures, c .before .digits-7 .ensures, c .before .before .enum-told23 .given .1))
-    (λ c. rw (c .said17 .ensures, c .before .digits-23 .ensures, c .before .before .set-reason .ensures, c .before .before .before .enum-told24 .given .1)))
+    (λ c. rw (c .said17 .ensures, c .before .digits-23 .ensures, c .before .before .enum-told24 .given .1)))

@@ -1,17 +1,18 @@
 -- `asking::on_msv` meets its contract. Assumes nothing.
-use mathlib.Core.Path.{refl}
 use borrow.Author.Needs.{needs}
-use Rattle.plans.specs.Queries.{msvPlan}
-use Rattle.plans.specs.ObeyLaws.{judged-as}
+use Rattle.cases.specs.PickLaws.{yes-via, no-via}
+use Rattle.plans.specs.Obey.{judge}
 use Rattle.asking.proofs.on_msv.Statement.{statement}
 use Rattle.asking.proofs.on_msv.Tie as tie
 
 pub on-msv-spec : {M : Type 1} → statement M
+unfolding judge
 on-msv-spec =
     tie.close
     (tie.spec
     (λ c κs. search needs)
     (λ c κs. search needs)
     (λ c κs. search needs)
+    (λ c. rw (c .said .ensures, c .before .msv-reply .ensures, yes-via _ _ (c .before .before .before .is-sampled .ensures) (c .before .before .if1 .taken)))
     (λ c κs. search needs)
-    (λ c. rw (c .settle .ensures, c .before .rung .ensures, c .before .before .is-sampled .ensures, c .before .before .before .msv-reply .ensures) (judged-as (c .before .before .before .before .args .u) (msvPlan (c .before .before .before .before .args .u)))))
+    (λ c. rw (c .refused .ensures, no-via _ _ (c .before .before .is-sampled .ensures) (c .before .if1 .left))))

@@ -1,6 +1,5 @@
 -- `asking::status_of` meets its contract. Assumes nothing.
 use borrow.Author.Needs.{needs}
-use native.Mathlib.Omega.{arith}
 use Rattle.plans.specs.Queries.{statusOf}
 use Rattle.asking.proofs.status_of.Statement.{statement}
 use Rattle.asking.proofs.status_of.Tie as tie

@@ -9,4 +9,4 @@ read-kept-spec =
     (tie.spec
     (λ c κs. search needs)
     (λ c κs. search needs)
-    (λ c. rw (c .read .ensures, c .before .read-line .ensures)))
+    (λ c. rw (← (c .before .read-line .ensures)) (c .read .ensures)))

@@ -10,6 +10,8 @@ serve-spec =
     (tie.spec
     (λ c. search needs)
     (λ c κs. search needs)
-    (λ c. rw (c .command .ensures, not-query (c .before .before .before .args .p) (c .before .match .keys2)))
     (λ c κs. search needs)
-    (λ c. rw (c .ask .ensures, c .before .enum-told .given .1)))
+    (λ c. rw (c .settle .ensures, not-query (c .before .before .before .before .args .p) (c .before .before .match .keys2)) (c .before .command .ensures))
+    (λ c κs. search needs)
+    (λ c κs. search needs)
+    (λ c. rw (c .set-reason .ensures, c .before .before .before .enum-told .given .1) (c .before .before .ask .ensures)))

@@ -6,8 +6,9 @@ use native.Mathlib.Omega.{arith}
 use lib.ListN.{length, length-take}
 use borrow.Author.Needs.{needs}
 use Rattle.state.specs.declared.Unit.{Unit as TheUnit}
-use Rattle.wire.specs.declared.Taken.{Taken}
-use Rattle.wire.specs.Wire.{blockOf, takenOf}
+use Rattle.serving.specs.declared.Taken.{Taken}
+use Rattle.serving.specs.Machine.{takenOf}
+use Rattle.wire.specs.Wire.{blockOf}
 use Rattle.wire.specs.WireLaws.{block-fits}
 use Rattle.lending.proofs.ask.Statement.{statement}
 use Rattle.lending.proofs.ask.Tie as tie

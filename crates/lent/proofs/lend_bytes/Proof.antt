@@ -13,8 +13,8 @@ use Rattle.state.specs.declared.Unit.{Unit as TheUnit}
 use Rattle.state.proofs.Unit as T
 use Rattle.state.proofs.Unit.Laws as T′
 use Rattle.wire.specs.Wire.{blockOf}
-use Rattle.wire.proofs.Taken as K
-use Rattle.wire.proofs.Taken.Laws as K′
+use Rattle.serving.proofs.Taken as K
+use Rattle.serving.proofs.Taken.Laws as K′
 use Rattle.lent.specs.declared.Counts.{Counts}
 use Rattle.lent.specs.Lent.{countsOf}
 use Rattle.lent.proofs.Counts as N

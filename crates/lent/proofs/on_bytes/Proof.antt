@@ -12,9 +12,10 @@ use Rattle.cases.specs.Run.{Run, roomOf}
 use Rattle.state.specs.declared.Unit.{Unit as TheUnit}
 use Rattle.state.proofs.Unit as T
 use Rattle.state.proofs.Unit.Laws as T′
-use Rattle.wire.specs.declared.Taken.{Taken}
-use Rattle.wire.specs.Wire.{blockOf, takenOf}
-use Rattle.wire.proofs.Taken as K
+use Rattle.serving.specs.declared.Taken.{Taken}
+use Rattle.serving.specs.Machine.{takenOf}
+use Rattle.wire.specs.Wire.{blockOf}
+use Rattle.serving.proofs.Taken as K
 use Rattle.wire.proofs.take as g
 use Rattle.wire.proofs.take.Symbol as g-def
 use Rattle.wire.proofs.take.Symbol.{name as #g}

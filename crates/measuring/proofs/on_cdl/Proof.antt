@@ -8,7 +8,7 @@ use Rattle.plans.specs.Plans.{cdlPlan}
 use Rattle.weight.specs.Ranges.{less-to}
 use Rattle.weighing.specs.Reading.{vNow}
 use Rattle.weighing.specs.RangeLaws.{v-now, zeros-now}
-use Rattle.plans.specs.ObeyLaws.{judged-as, unshaped}
+use Rattle.plans.specs.ObeyLaws.{settled-as, unshaped}
 use Rattle.measuring.proofs.on_cdl.Statement.{statement}
 use Rattle.measuring.proofs.on_cdl.Tie as tie
 
@@ -18,7 +18,7 @@ on-cdl-spec =
     (tie.spec
     (λ c. search needs)
     (λ c κs. search needs)
-    (λ c. rw (c .refused .ensures) (unshaped (c .before .before .args .u) (cdlPlan (c .before .before .args .u) (c .before .before .args .p)) _ _ refl (not-nothing (c .before .before .args .p) (c .before .match .keys2))))
+    (λ c. rw (c .ill-formed .ensures) (unshaped (c .before .before .args .u) (cdlPlan (c .before .before .args .u) (c .before .before .args .p)) _ _ refl (not-nothing (c .before .before .args .p) (c .before .match .keys2))))
     (λ c κs. search needs)
     (λ c κs. search needs)
     (λ c κs. let z = zeros-now (c .before .before .before .before .args .u) (c .before .before .before .before .pre) in (c .before .before .before .before .pre, rw (c .before .cleared-now .ensures) (omega (arith, less-to (vNow (c .before .before .before .before .args .u)) (c .before .before .before .before .args .u .zeros .z0), v-now (c .before .before .before .before .args .u) (c .before .before .before .before .pre)))))
@@ -26,5 +26,4 @@ on-cdl-spec =
     (λ c κs. search needs)
     (λ c κs. search needs)
     (λ c κs. search needs)
-    (λ c κs. search needs)
-    (λ c. rw (c .settle .ensures, c .before .done .ensures, c .before .before .set-zeros .ensures, c .before .before .before .before .rung2 .ensures, c .before .before .before .before .before .rung .ensures, c .before .before .before .before .before .before .clears .ensures, c .before .before .before .before .before .before .before .is-steady .ensures, c .before .before .before .before .before .before .before .before .cleared-now .ensures, c .before .before .before .before .before .before .before .before .before .enum-told .given .1) (judged-as (c .before .before .before .before .before .before .before .before .before .before .before .args .u) (cdlPlan (c .before .before .before .before .before .before .before .before .before .before .before .args .u) param.Nothing))))
+    (λ c. rw (c .judged .ensures, c .before .set-zeros .ensures, c .before .before .before .rung2 .ensures, c .before .before .before .before .rung .ensures, c .before .before .before .before .before .clears .ensures, c .before .before .before .before .before .before .is-steady .ensures, c .before .before .before .before .before .before .before .cleared-now .ensures, c .before .before .before .before .before .before .before .before .enum-told .given .1) (settled-as (c .before .before .before .before .before .before .before .before .before .before .args .u) (cdlPlan (c .before .before .before .before .before .before .before .before .before .before .args .u) param.Nothing))))

@@ -1,10 +1,9 @@
 -- `measuring::on_ldw` meets its contract. Assumes nothing.
-use mathlib.Core.Path.{refl}
 use borrow.Author.Needs.{needs}
 use Rattle.line.specs.declared.shape.Param.the-variants as param
 use Rattle.line.proofs.Wanted.{not-number}
 use Rattle.plans.specs.Plans.{ldwPlan}
-use Rattle.plans.specs.ObeyLaws.{judged-as}
+use Rattle.plans.specs.ObeyLaws.{settled-as}
 use Rattle.measuring.proofs.on_ldw.Statement.{statement}
 use Rattle.measuring.proofs.on_ldw.Tie as tie
 
@@ -21,5 +20,4 @@ on-ldw-spec =
     (λ c κs. search needs)
     (λ c κs. search needs)
     (λ c κs. search needs)
-    (λ c κs. search needs)
-    (λ c. rw (c .settle .ensures, c .before .done .ensures, c .before .before .set-point .ensures, c .before .before .before .point-at .ensures, c .before .before .before .before .gate .ensures, c .before .before .before .before .before .is-cell .ensures, c .before .before .before .before .before .before .before .point-typed .ensures, c .before .before .before .before .before .before .before .before .before .p .given .1) (judged-as (c .before .before .before .before .before .before .before .before .before .before .before .args .u) (ldwPlan (c .before .before .before .before .before .before .before .before .before .before .before .args .u) (param.Number (c .before .before .before .before .before .before .before .before .before .p .given .0 .0))))))
+    (λ c. rw (c .judged .ensures, c .before .set-point .ensures, c .before .before .point-at .ensures, c .before .before .before .gate .ensures, c .before .before .before .before .is-cell .ensures, c .before .before .before .before .before .before .point-typed .ensures, c .before .before .before .before .before .before .before .before .p .given .1) (settled-as (c .before .before .before .before .before .before .before .before .before .before .args .u) (ldwPlan (c .before .before .before .before .before .before .before .before .before .before .args .u) (param.Number (c .before .before .before .before .before .before .before .before .p .given .0 .0))))))

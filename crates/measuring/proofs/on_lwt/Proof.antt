@@ -24,5 +24,4 @@ on-lwt-spec =
     (λ c κs. search needs)
     (λ c κs. search needs)
     (λ c κs. search needs)
-    (λ c κs. search needs)
-    (λ c. rw (c .settle .ensures, c .before .done .ensures, c .before .before .alter .ensures, c .before .before .before .no-point .ensures, c .before .before .before .before .with-curve .ensures, c .before .before .before .before .before .gate .ensures, c .before .before .before .before .before .before .is-cell .ensures, c .before .before .before .before .before .before .before .before .rung2 .ensures, c .before .before .before .before .before .before .before .before .before .rung .ensures, c .before .before .before .before .before .before .before .before .before .before .spans-in .ensures, c .before .before .before .before .before .before .before .before .before .before .before .curve-to .ensures, c .before .before .before .before .before .before .before .before .before .before .before .before .point-typed .ensures, c .before .before .before .before .before .before .before .before .before .before .before .before .before .before .p .given .1) (lwt-typed (c .before .before .before .before .before .before .before .before .before .before .before .before .before .before .before .before .args .u) (c .before .before .before .before .before .before .before .before .before .before .before .before .before .before .p .given .0 .0))))
+    (λ c. rw (c .judged .ensures, c .before .alter .ensures, c .before .before .no-point .ensures, c .before .before .before .with-curve .ensures, c .before .before .before .before .gate .ensures, c .before .before .before .before .before .is-cell .ensures, c .before .before .before .before .before .before .before .rung2 .ensures, c .before .before .before .before .before .before .before .before .rung .ensures, c .before .before .before .before .before .before .before .before .before .spans-in .ensures, c .before .before .before .before .before .before .before .before .before .before .curve-to .ensures, c .before .before .before .before .before .before .before .before .before .before .before .point-typed .ensures, c .before .before .before .before .before .before .before .before .before .before .before .before .before .p .given .1) (lwt-typed (c .before .before .before .before .before .before .before .before .before .before .before .before .before .before .before .args .u) (c .before .before .before .before .before .before .before .before .before .before .before .before .before .p .given .0 .0))))

@@ -12,5 +12,4 @@ take-sample-spec =
     (λ c κs. search needs)
     (λ c κs. search needs)
     (λ c κs. let e = c .before .before .before in rw (c .see .ensures, c .before .seen-of .ensures, par (e .fits .x) .value) (seeing-ranged (e .args .u) (e .args .x) (e .args .still) (e .pre)))
-    (λ c κs. search needs)
-    (λ c. rw (c .set-zeros .ensures, c .before .zeros-now .ensures, c .before .before .see .ensures, c .before .before .before .seen-of .ensures, par (c .before .before .before .before .before .fits .x) .value)))
+    (λ c. rw (c .zeros-now .ensures, c .before .see .ensures, c .before .before .seen-of .ensures, par (c .before .before .before .before .fits .x) .value)))

@@ -7,7 +7,7 @@ use mir.Val.{toZ, ofZ}
 use Rattle.whole.specs.Round.{roundDiv}
 use Rattle.whole.specs.Bits.{ran, sub-ok, sub-eq}
 use Rattle.weight.specs.Weight.{asCell, corrected}
-use Rattle.weight.specs.Ranges.{above-most, above-product}
+use Rattle.weight.specs.Ranges.{above-product}
 use Rattle.weight.proofs.corrected_sample.Statement.{statement}
 use Rattle.weight.proofs.corrected_sample.Tie as tie
 

@@ -4,7 +4,7 @@ use borrow.Author.Needs.{needs}
 use Rattle.line.proofs.Wanted.{not-number}
 use Rattle.line.specs.declared.shape.Param.the-variants as param
 use Rattle.plans.specs.Plans.{cofPlan}
-use Rattle.plans.specs.ObeyLaws.{judged-as, unshaped}
+use Rattle.plans.specs.ObeyLaws.{settled-as, unshaped}
 use Rattle.changing.proofs.set.on_cof.Statement.{statement}
 use Rattle.changing.proofs.set.on_cof.Tie as tie
 
@@ -14,11 +14,10 @@ on-cof-spec =
     (tie.spec
     (λ c. search needs)
     (λ c κs. search needs)
-    (λ c. rw (c .refused .ensures) (unshaped (c .before .before .args .u) (cofPlan (c .before .before .args .u) (c .before .before .args .p)) _ _ refl (not-number (c .before .before .args .p) (c .before .match .keys2))))
+    (λ c. rw (c .ill-formed .ensures) (unshaped (c .before .before .args .u) (cofPlan (c .before .before .args .u) (c .before .before .args .p)) _ _ refl (not-number (c .before .before .args .p) (c .before .match .keys2))))
     (λ c κs. search needs)
     (λ c κs. search needs)
     (λ c κs. search needs)
     (λ c κs. search needs)
     (λ c κs. search needs)
-    (λ c κs. search needs)
-    (λ c. rw (c .settle .ensures, c .before .done .ensures, c .before .before .set-free .ensures, c .before .before .before .before .rung .ensures, c .before .before .before .before .before .is-format .ensures, c .before .before .before .before .before .before .size-of .ensures, c .before .before .before .before .before .before .before .before .p .given .1) (judged-as (c .before .before .before .before .before .before .before .before .before .before .args .u) (cofPlan (c .before .before .before .before .before .before .before .before .before .before .args .u) (param.Number (c .before .before .before .before .before .before .before .before .p .given .0 .0))))))
+    (λ c. rw (c .judged .ensures, c .before .set-free .ensures, c .before .before .before .rung .ensures, c .before .before .before .before .is-format .ensures, c .before .before .before .before .before .size-of .ensures, c .before .before .before .before .before .before .before .p .given .1) (settled-as (c .before .before .before .before .before .before .before .before .before .args .u) (cofPlan (c .before .before .before .before .before .before .before .before .before .args .u) (param.Number (c .before .before .before .before .before .before .before .p .given .0 .0))))))

@@ -4,7 +4,7 @@ use borrow.Author.Needs.{needs}
 use Rattle.line.proofs.Wanted.{not-nothing}
 use Rattle.line.specs.declared.shape.Param.the-variants as param
 use Rattle.plans.specs.Plans.{resPlan}
-use Rattle.plans.specs.ObeyLaws.{judged-as, unshaped}
+use Rattle.plans.specs.ObeyLaws.{settled-as, unshaped}
 use Rattle.changing.proofs.trade.on_res.Statement.{statement}
 use Rattle.changing.proofs.trade.on_res.Tie as tie
 
@@ -14,8 +14,7 @@ on-res-spec =
     (tie.spec
     (λ c. search needs)
     (λ c κs. search needs)
-    (λ c. rw (c .refused .ensures) (unshaped (c .before .before .args .u) (resPlan (c .before .before .args .u) (c .before .before .args .p)) _ _ refl (not-nothing (c .before .before .args .p) (c .before .match .keys2))))
+    (λ c. rw (c .ill-formed .ensures) (unshaped (c .before .before .args .u) (resPlan (c .before .before .args .u) (c .before .before .args .p)) _ _ refl (not-nothing (c .before .before .args .p) (c .before .match .keys2))))
     (λ c κs. search needs)
     (λ c κs. search needs)
-    (λ c κs. search needs)
-    (λ c. rw (c .settle .ensures, c .before .empty .ensures, c .before .before .restart .ensures, c .before .before .before .enum-told .given .1) (judged-as (c .before .before .before .before .before .args .u) (resPlan (c .before .before .before .before .before .args .u) param.Nothing))))
+    (λ c. rw (c .judged .ensures, c .before .start-again .ensures, c .before .before .enum-told .given .1) (settled-as (c .before .before .before .before .args .u) (resPlan (c .before .before .before .before .args .u) param.Nothing))))

@@ -4,7 +4,7 @@ use borrow.Author.Needs.{needs}
 use Rattle.line.proofs.Wanted.{not-text}
 use Rattle.line.specs.declared.shape.Param.the-variants as param
 use Rattle.plans.specs.Plans.{dpwPlan, wordOf}
-use Rattle.plans.specs.ObeyLaws.{judged-as, unshaped}
+use Rattle.plans.specs.ObeyLaws.{settled-as, unshaped}
 use Rattle.changing.proofs.word.on_dpw.Statement.{statement}
 use Rattle.changing.proofs.word.on_dpw.Tie as tie
 
@@ -15,11 +15,10 @@ on-dpw-spec =
     (tie.spec
     (λ c. search needs)
     (λ c κs. search needs)
-    (λ c. rw (c .refused .ensures) (unshaped (c .before .before .before .args .u) (dpwPlan (c .before .before .before .args .u) (c .before .before .before .args .s .now) (c .before .before .before .args .p)) _ _ refl (not-text (c .before .before .before .args .p) (c .before .match .keys2))))
+    (λ c. rw (c .ill-formed .ensures) (unshaped (c .before .before .before .args .u) (dpwPlan (c .before .before .before .args .u) (c .before .before .before .args .s .now) (c .before .before .before .args .p)) _ _ refl (not-text (c .before .before .before .args .p) (c .before .match .keys2))))
     (λ c κs. search needs)
     (λ c κs. search needs)
     (λ c κs. search needs)
     (λ c κs. search needs)
     (λ c κs. search needs)
-    (λ c κs. search needs)
-    (λ c. rw (c .settle .ensures, c .before .rung .ensures, c .before .before .done .ensures, c .before .before .before .set-password .ensures, c .before .before .before .before .is-between .ensures, c .before .before .before .before .before .word-of .ensures, c .before .before .before .before .before .before .before .p .given .1) (judged-as (c .before .before .before .before .before .before .before .before .before .before .args .u) (dpwPlan (c .before .before .before .before .before .before .before .before .before .before .args .u) (c .before .before .before .before .before .before .before .before .before .before .args .s .now) (param.Text (c .before .before .before .before .before .before .before .p .given .0 .0) (c .before .before .before .before .before .before .before .p .given .0 .1 .0))))))
+    (λ c. rw (c .judged .ensures, c .before .rung .ensures, c .before .before .set-password .ensures, c .before .before .before .is-between .ensures, c .before .before .before .before .word-of .ensures, c .before .before .before .before .before .before .p .given .1) (settled-as (c .before .before .before .before .before .before .before .before .before .args .u) (dpwPlan (c .before .before .before .before .before .before .before .before .before .args .u) (c .before .before .before .before .before .before .before .before .before .args .s .now) (param.Text (c .before .before .before .before .before .before .p .given .0 .0) (c .before .before .before .before .before .before .p .given .0 .1 .0))))))

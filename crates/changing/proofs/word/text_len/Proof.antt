@@ -1,5 +1,4 @@
 -- `changing::word::text_len` meets its contract. Assumes nothing.
-use native.Mathlib.Omega.{arith}
 use borrow.Author.Needs.{needs}
 use Rattle.changing.specs.TextLaws.{len-none, len-rest, len-all}
 use Rattle.changing.proofs.word.text_len.Statement.{statement}

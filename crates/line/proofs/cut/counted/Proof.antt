@@ -1,5 +1,6 @@
+-- `line::cut::counted` meets its contract. Assumes nothing.
 use borrow.Author.Needs.{needs}
-use borrow.Author.Tests.{lt-ltb, le-ltb}
+use borrow.Author.Tests.{le-ltb}
 use Rattle.line.specs.Line.{countedOf}
 use Rattle.line.proofs.cut.counted.Statement.{statement}
 use Rattle.line.proofs.cut.counted.Tie as tie
@@ -10,6 +11,6 @@ counted-spec =
     tie.close
     (tie.spec
     (λ c κs. search needs)
-    (λ c. search needs)
-    (λ c. simp (lt-ltb _ _ (c .if1 .taken), c .before .quote .ensures))
-    (λ c. simp (le-ltb _ _ (c .if1 .left), c .before .quote .ensures)))
+    (λ c. c .stored .ensures)
+    (λ c κs. search needs)
+    (λ c. simp (le-ltb _ _ (c .before .if1 .left), c .quote .ensures)))

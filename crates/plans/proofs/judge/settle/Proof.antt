@@ -9,6 +9,7 @@ settle-spec =
     tie.close
     (tie.spec
     (λ c κs. search needs)
-    (λ c. search (cases, named))
+    (λ c κs. search needs)
+    (λ c. rw (c .spoken .ensures, ← (c .before .before .before .passes .ensures), c .before .before .if1 .taken))
     (λ c κs. search needs)
     (λ c. search (cases, named)))

@@ -1,9 +1,11 @@
 -- `state::changes::trade` meets its contract. Assumes nothing.
 use borrow.Author.Needs.{needs}
+use Rattle.state.specs.Parts.{changedBy}
 use Rattle.state.proofs.changes.trade.Statement.{statement}
 use Rattle.state.proofs.changes.trade.Tie as tie
 
 pub trade-spec : {M : Type 1} → statement M
+unfolding changedBy
 trade-spec =
     tie.close
     (tie.spec
@@ -11,4 +13,5 @@ trade-spec =
     (λ c κs. search needs)
     (λ c κs. search needs)
     (λ c κs. search needs)
-    (λ c. rw (c .before .no-point .ensures, c .before .before .no-zeros .ensures, c .before .before .before .gross-shown .ensures, c .before .before .before .before .next-count .ensures)))
+    (λ c κs. search needs)
+    (λ c. rw (c .unchanged .ensures, c .before .before .no-point .ensures, c .before .before .before .no-zeros .ensures, c .before .before .before .before .gross-shown .ensures, c .before .before .before .before .before .next-count .ensures)))

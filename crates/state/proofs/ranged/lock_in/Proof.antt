@@ -1,6 +1,5 @@
 -- `state::ranged::lock_in` meets its contract. Assumes nothing.
 use mathlib.Core.Path.{refl}
-use borrow.Author.Needs.{needs}
 use Rattle.state.specs.Ranged.{lockIn}
 use Rattle.state.proofs.ranged.lock_in.Statement.{statement}
 use Rattle.state.proofs.ranged.lock_in.Tie as tie

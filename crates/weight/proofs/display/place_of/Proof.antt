@@ -1,9 +1,7 @@
 -- `weight::display::place_of` meets its contract. Assumes nothing.
-use mathlib.Core.Path.{_≡_, ap, _∙_}
 use Prim.Native.Nat.{_^_, _<_}
 use native.Mathlib.Omega.{arith}
 use borrow.Author.Needs.{needs}
-use lib.IntN.{pos, negℤ, _*ℤ_}
 use Rattle.whole.specs.Sizes.{abs-fits}
 use Rattle.whole.specs.Bits.{nat, small, lit, neg-fits, neg-is, mul-ok, mul-is}
 use Rattle.weight.specs.DisplayLaws.{highest-to, lowest-to}

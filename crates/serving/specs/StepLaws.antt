@@ -13,7 +13,7 @@ use Rattle.state.specs.declared.Unit.{Unit as TheUnit}
 use Rattle.plans.specs.Obey.{Outcome, obeyOf}
 use Rattle.plans.specs.JudgeLaws.{every-line}
 use Rattle.plans.specs.Forms.{form-short, query-form, command-by}
-use Rattle.wire.specs.Step.{stepText}
+use Rattle.serving.specs.Step.{stepText}
 
 pub obey-short : (u : TheUnit) (kept : List ℕ) (p : Pos) → length (obeyOf u kept p .text) ≤ ROOM
 obey-short u kept p =

@@ -1,0 +1,5 @@
+pub mod Step
+pub mod StepLaws
+pub mod Machine
+pub mod TurnLaws
+pub mod KeepLaws
