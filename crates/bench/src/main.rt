@@ -7,9 +7,10 @@ use session::State;
 use state::Unit;
 ghost use mathlib.Core.Path.{_≡_};
 ghost use mathlib.Core.Bool.{true};
-ghost use Prim.Native.Nat.{_≤_};
-ghost use lib.ListN.{length};
+ghost use Prim.Native.Nat.{_≤_, _<_};
+ghost use lib.ListN.{length, getD};
 ghost use Rattle.state.specs.Sound.{soundOf};
+ghost use Rattle.session.specs.WalkLaws.{Walked};
 
 // After some bytes: the unit, where the line stands, and whether there were any.
 struct Bench {
@@ -38,10 +39,11 @@ fn closed(out: &mut [u8], o: usize, w: usize) -> usize {
     o
 }
 
-// A line's bytes from `at` on, to its LF or to the end of what was read.
+// A line's bytes from `at` on, to its LF or to the end of what was read: the state is `session`'s, and the command's bytes are those that it hands on.
 fn scan(s: State, buf: &[u8], at: usize) -> Line
     requires { ⌜ at ≤ length (now buf) ⌝ }
-    ensures { λ r. ⌜ (at ≤ r .from) × ((r .from ≤ r .to) × (r .to ≤ length (now (buf .entry)))) ⌝ }
+    ensures walked { λ r. ⌜ Walked s (now (buf .entry)) at (r .state) (r .from) (r .to) ⌝ }
+    ensures ended { λ r. ⌜ (r .to < length (now (buf .entry)) → getD (now (buf .entry)) (r .to) 0 ≡ 0x0a) ⌝ }
 {
     let n = buf.len();
     let mut now = s;

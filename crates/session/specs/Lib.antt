@@ -5,3 +5,4 @@ pub mod Edges
 pub mod SampleLaws
 pub mod FormLaws
 pub mod ReaderLaws
+pub mod WalkLaws

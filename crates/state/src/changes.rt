@@ -82,13 +82,13 @@ pub fn alter(u: Unit, q: Sealed, p: Point) -> Change
     ensures { λ r. ⌜ changedBy u r ≡ alteredOf u q p ⌝ }
 {
     let f = gross_shown(u.used.free);
-    let z = no_zeros(false);
+    let none = no_zeros(false);
     let mut s = u.used;
     s.sealed = q;
     s.free = f;
     let mut c = unchanged(u);
     c.used = s;
-    c.zeros = z;
+    c.zeros = none;
     c.point = p;
     c
 }
