@@ -94,34 +94,57 @@ pub fn table(program: &str, oracle: &str) -> bool {
     }
 }
 
+/// Writes the sessions of a kind, the whole one and its first part, and sees that both programs answer it alike.
+fn prepare(kind: &str, program: &str) -> Result<(), String> {
+    let fail = |e: std::io::Error| format!("target/speed: {e}");
+    let input = session(kind, LINES);
+    fs::write(whole(kind), &input).map_err(fail)?;
+    fs::write(part(kind), session(kind, PART)).map_err(fail)?;
+    let tested = Program { path: program.into(), args: Vec::new() };
+    if tested.serve(&input)? != oracle::session(&mut Unit::new(), &input, false) {
+        return Err(format!("{kind}: the answers differ, no times"));
+    }
+    Ok(())
+}
+
+fn whole(kind: &str) -> String {
+    format!("target/speed/{kind}")
+}
+
+fn part(kind: &str) -> String {
+    format!("target/speed/{kind}.part")
+}
+
+/// The best times of both programs on each kind. A round runs each once, so that the runs of one lie apart: a machine that is slow
+/// for a second or two is not slow for all of them.
+fn times(programs: [&str; 2]) -> Result<[[f64; 2]; 3], String> {
+    let mut best = [[f64::INFINITY; 2]; 3];
+    for _ in 0..RUNS {
+        for (row, kind) in best.iter_mut().zip(KINDS) {
+            for (time, program) in row.iter_mut().zip(programs) {
+                *time = time.min(seconds(program, &whole(kind))?);
+            }
+        }
+    }
+    Ok(best)
+}
+
 fn run(program: &str, oracle: &str) -> Result<(), String> {
     let fail = |e: std::io::Error| format!("target/speed: {e}");
     fs::create_dir_all("target/speed").map_err(fail)?;
     fs::write("target/speed/empty", "").map_err(fail)?;
+    for kind in KINDS {
+        prepare(kind, program)?;
+    }
     println!("| {LINES} lines | bench | independent | ratio | bench, instructions a line | independent | ratio |");
     println!("|---|---|---|---|---|---|---|");
-    for kind in KINDS {
-        let (whole, part) = (format!("target/speed/{kind}"), format!("target/speed/{kind}.part"));
-        let input = session(kind, LINES);
-        fs::write(&whole, &input).map_err(fail)?;
-        fs::write(&part, session(kind, PART)).map_err(fail)?;
-        let want = oracle::session(&mut Unit::new(), &input, false);
-        let tested = Program { path: program.into(), args: Vec::new() };
-        if tested.serve(&input)? != want {
-            return Err(format!("{kind}: the answers differ, no times"));
-        }
-        let mut best = [f64::INFINITY; 2];
-        for _ in 0..RUNS {
-            for (i, p) in [program, oracle].into_iter().enumerate() {
-                best[i] = best[i].min(seconds(p, &whole)?);
-            }
-        }
-        let counts = [program, oracle].map(|p| per_line(p, &part, "target/speed/empty"));
+    for (kind, [a, b]) in KINDS.into_iter().zip(times([program, oracle])?) {
+        let counts = [program, oracle].map(|p| per_line(p, &part(kind), "target/speed/empty"));
         let counted = match counts {
             [Some(a), Some(b)] => format!("{a:.0} | {b:.0} | {:.2}", a / b),
             _ => "no valgrind | | ".into(),
         };
-        println!("| {kind} | {:.3} s | {:.3} s | {:.2} | {counted} |", best[0], best[1], best[0] / best[1]);
+        println!("| {kind} | {a:.3} s | {b:.3} s | {:.2} | {counted} |", a / b);
     }
     println!("\nBest of {RUNS} runs each; instructions by callgrind on the first {PART} lines, start-up taken off.");
     Ok(())
