@@ -301,6 +301,9 @@ pub fn made(u: Unit, c: Change) -> Unit
     let p = c.point;
     let w = c.password;
     let mut v = u;
+    if c.saves {
+        v.saved = s;
+    }
     v.used = s;
     v.zeros = z;
     v.point = p;
@@ -308,9 +311,5 @@ pub fn made(u: Unit, c: Change) -> Unit
     v.counter = c.counter;
     v.reason = c.reason;
     v.unlocked = c.unlocked;
-    if c.saves {
-        v.saved = s;
-        return v;
-    }
     v
 }
