@@ -1,4 +1,6 @@
 // Queries: what each gives.
+#![tactic(auto)]
+
 ghost use Rattle.std.specs.Prelude.{◌≡◌, ◌≤◌};
 ghost use Rattle.reply.specs.Reply.{reply_of, refused_text};
 ghost use Rattle.state.specs.Reasons.{number_of};
@@ -14,7 +16,7 @@ use state::{Reason, Unit, reasons};
 use weight::{Cell, Digits, Figure, Place, display};
 
 // What a query hands on: the reason that stands after it, all that it can change, and its reply.
-#[derive(Drop)]
+#[derive(Clone, Copy)]
 pub struct Noted {
     pub reason: u64,
     pub reply: Reply,

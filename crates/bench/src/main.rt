@@ -1,6 +1,8 @@
 // The bench program: lines from standard input to a unit, and its replies to standard output (document 01, the paragraph on the bench program).
 // What a line is says `session`; what the unit does says `serving` of its bytes, `weighing` of a sample and `state` of a restart. Here bytes are
 // only carried.
+#![tactic(auto)]
+
 ghost use Rattle.std.specs.Prelude.{◌≡◌, true, ◌≤◌, ◌<◌, length, get_or};
 ghost use Rattle.state.specs.Sound.{sound_of};
 ghost use Rattle.session.specs.WalkLaws.{Walked};
@@ -10,7 +12,7 @@ use session::{Event, State};
 use state::Unit;
 
 // After some bytes: the unit, where the line stands, and whether there were any.
-#[derive(Drop)]
+#[derive(Clone, Copy)]
 struct Bench {
     unit: Unit,
     state: State,
@@ -18,7 +20,7 @@ struct Bench {
 }
 
 // Where a line stands: its state, and the bytes of its command that are not handed on yet, from `from` to `to`.
-#[derive(Drop)]
+#[derive(Clone, Copy)]
 struct Line {
     state: State,
     from: usize,

@@ -1,5 +1,7 @@
 // Blocks and rooms: `b`, blank, room, blank, hex hands a unit one block with a room of so many bytes, and prints how many bytes were taken, how
 // many were written, and these in hex. `s` and `r` are the bench's, and all else prints `!` (compare/README.md, "The raw form").
+#![tactic(auto)]
+
 ghost use Rattle.std.specs.Prelude.{◌≡◌, true, ◌≤◌, ◌<◌, length};
 ghost use Rattle.state.specs.Sound.{sound_of};
 
@@ -11,7 +13,7 @@ use state::Unit;
 const MOST: usize = 1024;
 
 // Where a line of a block stands; a room that was read is held.
-#[derive(Drop)]
+#[derive(Clone, Copy)]
 enum Stage {
     // Nothing was read yet.
     Start,
@@ -30,7 +32,7 @@ enum Stage {
 }
 
 // The stage after a byte of the line, and the byte of the block that it ended, if any.
-#[derive(Drop)]
+#[derive(Clone, Copy)]
 struct Next {
     stage: Stage,
     whole: bool,
@@ -38,7 +40,7 @@ struct Next {
 }
 
 // After some bytes: the unit, the line twice, as a block's and as any other, the block's bytes, and whether there were any.
-#[derive(Drop)]
+#[derive(Clone, Copy)]
 struct Blocks {
     unit: Unit,
     stage: Stage,
@@ -49,7 +51,7 @@ struct Blocks {
 }
 
 // The unit, and how many bytes wait to be written.
-#[derive(Drop)]
+#[derive(Clone, Copy)]
 struct Served {
     unit: Unit,
     out: usize,

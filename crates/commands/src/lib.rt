@@ -1,4 +1,6 @@
 // A line, obeyed: its shape read, its needs looked at in document 01's order, then done or refused.
+#![tactic(auto)]
+
 ghost use Rattle.std.specs.Prelude.{◌≡◌, min};
 ghost use Rattle.state.specs.RangedLaws.{Ranged};
 ghost use Rattle.line.specs.Shape.{shape_of};

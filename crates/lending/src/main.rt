@@ -1,4 +1,6 @@
 // One unit is lent to each event: a still sample, a tare, a restart. Printed are the replies: the tare taken, its value, and its value after the restart.
+#![tactic(auto)]
+
 ghost use Rattle.std.specs.Prelude.{◌≡◌};
 ghost use Rattle.wire.specs.Wire.{block_of};
 

@@ -1,4 +1,6 @@
 // The events on a unit that is lent: one thin function for each, above the operations by value. None has a condition.
+#![tactic(auto)]
+
 ghost use Rattle.std.specs.Prelude.{◌≡◌, length};
 ghost use Rattle.cases.specs.Run.{room_of};
 ghost use Rattle.serving.specs.Machine.{taken_of};
@@ -9,7 +11,7 @@ use serving::Taken;
 use state::Unit;
 
 // How many bytes of a block were taken, and how many were written into the room.
-#[derive(Drop)]
+#[derive(Clone, Copy)]
 pub struct Counts {
     pub taken: usize,
     pub written: usize,

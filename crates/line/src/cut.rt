@@ -7,7 +7,7 @@ ghost use Rattle.line.specs.Line.{most, fresh_pos, ends_of, drops_of, quoted_of,
 pub const MOST: usize = 40;
 
 // How many bytes are kept, whether a quote is open, whether the line is too long.
-#[derive(Drop)]
+#[derive(Clone, Copy)]
 pub struct Pos {
     pub len: usize,
     pub quoted: bool,
@@ -15,7 +15,7 @@ pub struct Pos {
 }
 
 // What a byte does: the place where it is kept (`MOST`: nowhere), and whether it ended the line.
-#[derive(Drop)]
+#[derive(Clone, Copy)]
 pub struct Moved {
     pub pos: Pos,
     pub at: usize,

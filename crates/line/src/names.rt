@@ -3,11 +3,11 @@ ghost use Rattle.std.specs.Prelude.{◌≡◌, drop};
 ghost use Rattle.line.specs.Names.{same_of, look_of, called_of, names};
 
 // Three letters, in upper case.
-#[derive(Drop)]
+#[derive(Clone, Copy)]
 pub struct Letters(pub u8, pub u8, pub u8);
 
 // The commands, in the order of document 01's table.
-#[derive(Drop)]
+#[derive(Clone, Copy)]
 pub enum Name {
     Gca,
     Gde,
@@ -35,7 +35,7 @@ pub enum Name {
     Esr,
 }
 
-#[derive(Drop)]
+#[derive(Clone, Copy)]
 pub enum Called {
     Unknown,
     Is(Name),

@@ -6,11 +6,11 @@ use crate::cut::MOST;
 use crate::names::{Called, Letters, Name};
 
 // A number that was read. A type of its own: what a number may be grows here.
-#[derive(Drop)]
+#[derive(Clone, Copy)]
 pub struct Number(pub i64);
 
 // A text is a place and a length within the line.
-#[derive(Drop)]
+#[derive(Clone, Copy)]
 pub enum Param {
     Nothing,
     Query,
@@ -18,7 +18,7 @@ pub enum Param {
     Text { start: usize, len: usize },
 }
 
-#[derive(Drop)]
+#[derive(Clone, Copy)]
 pub enum Shape {
     Malformed,
     Unknown,
@@ -26,13 +26,13 @@ pub enum Shape {
 }
 
 // What follows the letters, if it is well-formed.
-#[derive(Drop)]
+#[derive(Clone, Copy)]
 pub enum Reading {
     Bad,
     Is(Param),
 }
 
-#[derive(Drop)]
+#[derive(Clone, Copy)]
 enum Digits {
     Bad,
     Value(u64),

@@ -1,4 +1,6 @@
 // What reads the sample: LDW, LWT, TAR, CDL.
+#![tactic(auto)]
+
 ghost use Rattle.std.specs.Prelude.{◌≡◌, false, ◌≤◌, ◌^◌, nat_abs};
 ghost use Rattle.cases.specs.Pick.{pick};
 ghost use Rattle.whole.specs.Sets.{inside};

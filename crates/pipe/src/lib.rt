@@ -1,4 +1,6 @@
 // What the programs do alike: bytes that wait to be written, and the lines that are no command's.
+#![tactic(auto)]
+
 ghost use Rattle.std.specs.Prelude.{◌≡◌, true, ◌+◌, ◌-◌, ◌≤◌, length, get_or, set};
 ghost use Rattle.state.specs.Sound.{sound_of};
 ghost use Rattle.session.specs.declared.Event.TheVariants.{None};

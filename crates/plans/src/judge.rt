@@ -15,7 +15,7 @@ use state::{Change, Reason, Unit, changes, reasons};
 use weight::Place;
 
 // A number by its sign and size.
-#[derive(Drop)]
+#[derive(Clone, Copy)]
 pub struct Size {
     pub plus: bool,
     pub n: u64,

@@ -1,11 +1,13 @@
 // What each command asks for and does, and the step that every command ends with: the first need that fails refuses it, else it is done.
+#![tactic(auto)]
+
 use reply::Reply;
 use state::{Change, Reason};
 
 pub mod judge;
 
 // A command before it is settled: what it changes if it is done, whether it says nothing then, and the first reason against it.
-#[derive(Drop)]
+#[derive(Clone, Copy)]
 pub struct Judged {
     pub change: Change,
     pub silent: bool,
@@ -13,7 +15,7 @@ pub struct Judged {
 }
 
 // What a line changes, and the reply to it.
-#[derive(Drop)]
+#[derive(Clone, Copy)]
 pub struct Obeyed {
     pub change: Change,
     pub reply: Reply,

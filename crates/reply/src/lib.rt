@@ -1,4 +1,6 @@
 // Values to the bytes of a reply, and the writer, which is lent the room from some place on.
+#![tactic(auto)]
+
 ghost use Rattle.std.specs.Prelude.{◌≡◌, [], ◌∷◌, ◌+◌, ◌%◌, length, pos};
 ghost use Rattle.reply.specs.Reply.{reply_of, said, fitting, over, places_of, digits_of, twos, crlf, done_text, refused_text, digits_text, blank_text, pair_text, signed_text, status_text, word4_text, word2_text};
 ghost use Rattle.reply.specs.Push.{pushes, parts_of, sized_of};
@@ -7,25 +9,25 @@ ghost use Rattle.reply.specs.Push.{pushes, parts_of, sized_of};
 pub const ROOM: usize = 17;
 
 // A reply: the first `len` bytes. The others are zero.
-#[derive(Drop)]
+#[derive(Clone, Copy)]
 pub struct Reply {
     pub bytes: [u8; ROOM],
     pub len: usize,
 }
 
 // A signed number that a reply shows.
-#[derive(Drop)]
+#[derive(Clone, Copy)]
 pub struct Shown(pub i64);
 
 // A signed number taken apart: n, or -1 - n where it is negative. So the least number needs no size of its own.
-#[derive(Drop)]
+#[derive(Clone, Copy)]
 struct Parts {
     negative: bool,
     n: u64,
 }
 
 // The sign, a blank or '-', and the size.
-#[derive(Drop)]
+#[derive(Clone, Copy)]
 struct Sized {
     sign: u8,
     size: u64,

@@ -1,4 +1,6 @@
 // A block served by a unit that is in range, for callers that know that it is: `wire`, which looks, and programs that are proved to.
+#![tactic(auto)]
+
 ghost use Rattle.std.specs.Prelude.{◌≡◌, length};
 ghost use Rattle.cases.specs.Run.{run_of, room_of};
 ghost use Rattle.state.specs.RangedLaws.{Ranged};
@@ -8,7 +10,7 @@ use line::cut;
 use state::{Unit, changes};
 
 // What a block of bytes did: the unit after it, and how many bytes were taken and written.
-#[derive(Drop)]
+#[derive(Clone, Copy)]
 pub struct Taken {
     pub next: Unit,
     pub taken: usize,

@@ -1,5 +1,7 @@
 // A line of the bench form, read byte by byte: a command, a sample, a restart, or none of them (document 01, the paragraph on the bench program).
 // Lines are of any length, so no line is held: where it stands is a small state by value, and a command's bytes are handed on as they come.
+#![tactic(auto)]
+
 ghost use Rattle.std.specs.Prelude.{◌≡◌, eqb};
 ghost use Rattle.session.specs.Form.{is_digit, sample_of, signed_of};
 ghost use Rattle.session.specs.Reader.{grown_of, digit_of, on_of, first_of, sign_of, more_of, flag_of, next_of, pass_of, stepped_of, ended_of};
@@ -11,14 +13,14 @@ const MOST: u64 = 2147483647;
 
 // The digits of x that were read, and 1 where a minus stands in front of them, else 0. This is no bool: a state is copied for each byte, and
 // the gap that a bool leaves before a number makes that copy slow.
-#[derive(Drop)]
+#[derive(Clone, Copy)]
 pub struct Decimal {
     pub minus: u64,
     pub size: u64,
 }
 
 // Where a line stands.
-#[derive(Drop)]
+#[derive(Clone, Copy)]
 pub enum State {
     // Nothing was read yet.
     Start,
@@ -45,14 +47,14 @@ pub enum State {
 }
 
 // The state after a byte, and whether the byte is one of a command.
-#[derive(Drop)]
+#[derive(Clone, Copy)]
 pub struct Stepped {
     pub next: State,
     pub pass: bool,
 }
 
 // What a whole line is.
-#[derive(Drop)]
+#[derive(Clone, Copy)]
 pub enum Event {
     None,
     Command,

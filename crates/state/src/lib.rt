@@ -1,4 +1,6 @@
 // The unit: what it holds, the values it may hold, and the changes that commands and events make to it.
+#![tactic(auto)]
+
 use line::cut::Pos;
 use weight::{Cell, Digits, Scale, Tenths};
 
@@ -8,7 +10,7 @@ pub mod reasons;
 pub mod table;
 
 // What the unit last saw: nothing since the restart, a sample beyond the cell's range, or a number with the cell's still flag.
-#[derive(Drop)]
+#[derive(Clone, Copy)]
 pub enum Seen {
     Nothing,
     Over,
@@ -17,7 +19,7 @@ pub enum Seen {
 }
 
 // The settings marked S: the curve in force with GCA, GDE, NOV and RSN, and the others; `cwt` is the waiting one.
-#[derive(Drop)]
+#[derive(Clone, Copy)]
 pub struct Sealed {
     pub scale: Scale,
     pub cwt: u64,
@@ -28,14 +30,14 @@ pub struct Sealed {
 }
 
 // The settings with no mark.
-#[derive(Drop)]
+#[derive(Clone, Copy)]
 pub struct Free {
     pub cof: u64,
     pub tas: u64,
     pub tare: Digits,
 }
 
-#[derive(Drop)]
+#[derive(Clone, Copy)]
 pub struct Settings {
     pub sealed: Sealed,
     pub lft: u64,
@@ -43,7 +45,7 @@ pub struct Settings {
 }
 
 // The zero of the first zeroing, the zero set or tracked later, and whether the first zeroing waits.
-#[derive(Drop)]
+#[derive(Clone, Copy)]
 pub struct Zeros {
     pub z0: Tenths,
     pub z1: Tenths,
@@ -51,21 +53,21 @@ pub struct Zeros {
 }
 
 // The waiting zero point; 0 where none is held.
-#[derive(Drop)]
+#[derive(Clone, Copy)]
 pub struct Point {
     pub held: bool,
     pub at: Cell,
 }
 
 // Its first `len` bytes; the others are zero.
-#[derive(Drop)]
+#[derive(Clone, Copy)]
 pub struct Password {
     pub bytes: [u8; 7],
     pub len: usize,
 }
 
 // `kept` and `pos` are the line so far; the loop over a block holds them apart while a line comes in.
-#[derive(Drop)]
+#[derive(Clone, Copy)]
 pub struct Unit {
     pub kept: [u8; 40],
     pub pos: Pos,
@@ -82,7 +84,7 @@ pub struct Unit {
 
 // What a command hands on: the parts of the unit that it could change, as they stand after it. But for a restart it changes neither the line nor
 // the sample. Where it `saves`, the settings in use become the saved ones too; where it `restarts`, the other parts do not count.
-#[derive(Drop)]
+#[derive(Clone, Copy)]
 pub struct Change {
     pub used: Settings,
     pub zeros: Zeros,
@@ -96,7 +98,7 @@ pub struct Change {
 }
 
 // The sealed settings that one command sets and that make the resets; LWT's curve and LFT make them too, and have functions of their own.
-#[derive(Drop)]
+#[derive(Clone, Copy)]
 pub enum Setting {
     Gca,
     Gde,
@@ -109,7 +111,7 @@ pub enum Setting {
 }
 
 // Why a command is refused, or that it is not.
-#[derive(Drop)]
+#[derive(Clone, Copy)]
 pub enum Reason {
     None,
     Long,

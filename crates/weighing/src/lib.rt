@@ -1,4 +1,6 @@
 // What a unit reads, and how samples move it. No weight is stored: each is made when it is asked for.
+#![tactic(auto)]
+
 ghost use Rattle.std.specs.Prelude.{◌≡◌};
 ghost use Rattle.state.specs.RangedLaws.{Ranged};
 ghost use Rattle.weighing.specs.Reading.{seen_at, seen_of, cell_of, steady_of, sampled_of, v_now, g_now, gross_now, net_now, place_at, gross_place, place_now, value_now, shown_now, read_at, read_by, reading_of};
@@ -8,7 +10,7 @@ use state::{Seen, Unit, Zeros, changes};
 use weight::{Cell, Digits, Place, Shown, Tenths, display, zero};
 
 // What the display has: nothing since the restart, over, under, or the weight with what is shown of it; each with its steadiness.
-#[derive(Drop)]
+#[derive(Clone, Copy)]
 pub enum Reading {
     Nothing,
     Over(bool),

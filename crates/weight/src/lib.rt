@@ -1,4 +1,6 @@
 // Document 01, "Weight" and "Curve, zero and tare": from a sample to the shown value, and how far zeros and tares may go.
+#![tactic(auto)]
+
 ghost use Rattle.std.specs.Prelude.{◌≡◌, ◌≤◌, ◌^◌, nat_abs};
 ghost use Rattle.weight.specs.Weight.{as_cell, corrected, tenths, less, above_zeros, gross, net, in_tenths};
 ghost use Rattle.weight.specs.Ranges.{ScaleIn};
@@ -8,22 +10,22 @@ pub mod sets;
 pub mod zero;
 
 // A number on the cell's scale: a sample, a point of the curve, u.
-#[derive(Drop)]
+#[derive(Clone, Copy)]
 pub struct Cell(pub i64);
 
 // A weight in tenths of a digit, and one in displayed digits. Only `gross_of` makes digits of tenths, and only `tare_in_tenths` tenths of digits.
-#[derive(Drop)]
+#[derive(Clone, Copy)]
 pub struct Tenths(pub i64);
 
-#[derive(Drop)]
+#[derive(Clone, Copy)]
 pub struct Digits(pub i64);
 
 // The number that stands for a shown value in a reply.
-#[derive(Drop)]
+#[derive(Clone, Copy)]
 pub struct Figure(pub i64);
 
 // L, W and C.
-#[derive(Drop)]
+#[derive(Clone, Copy)]
 pub struct Curve {
     pub l: Cell,
     pub w: Cell,
@@ -31,7 +33,7 @@ pub struct Curve {
 }
 
 // What a weight is worked out by.
-#[derive(Drop)]
+#[derive(Clone, Copy)]
 pub struct Scale {
     pub curve: Curve,
     pub gca: u64,
@@ -41,14 +43,14 @@ pub struct Scale {
 }
 
 // Where a number stands by two limits.
-#[derive(Drop)]
+#[derive(Clone, Copy)]
 pub enum Place {
     Within,
     Over,
     Under,
 }
 
-#[derive(Drop)]
+#[derive(Clone, Copy)]
 pub enum Shown {
     Number(Digits),
     Over,

@@ -1,4 +1,6 @@
 // Signed whole numbers: their sign and size, the sets that they are taken from, and a product divided and rounded.
+#![tactic(auto)]
+
 ghost use Rattle.std.specs.Prelude.{◌≡◌, ◌+◌, ◌*◌, ◌<◌, ◌^◌, ℤ, pos, nat_abs, ◌*ℤ◌};
 ghost use Rattle.std.specs.Int.Signed.{non_neg};
 ghost use Rattle.whole.specs.Round.{round_nat, round_div, like};

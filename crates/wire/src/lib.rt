@@ -1,4 +1,6 @@
 // The public operations, by value. A unit out of range comes back unchanged from each of them, so that none needs a condition.
+#![tactic(auto)]
+
 ghost use Rattle.std.specs.Prelude.{◌≡◌, length};
 ghost use Rattle.cases.specs.Run.{room_of};
 ghost use Rattle.state.specs.Changes.{new_unit};

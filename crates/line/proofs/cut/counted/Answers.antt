@@ -1,0 +1,7 @@
+use Rattle.std.proofs.Common.{rules, le-ltb}
+use Rattle.line.specs.Line.{counted_of}
+use Rattle.line.proofs.cut.counted.Goals as goal
+
+pub returns : goal.returns
+unfolding counted_of
+returns c = simp (le-ltb _ _ c.if-p-lt-MOST.false, c.quote.ensures)

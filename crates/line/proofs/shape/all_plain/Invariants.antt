@@ -1,0 +1,11 @@
+use Rattle.std.proofs.Common.{◌≡◌, refl, sym, ◌-◌, ◌≤◌, arith, drop}
+use Rattle.cases.specs.PickLaws.{cases}
+use Rattle.line.specs.ReadLaws.{ands, all_no, all_on, all_end}
+use Rattle.line.specs.Shape.{all_of, is_plain}
+use Rattle.line.proofs.shape.all_plain.Given as goal
+
+abbrev pub invariant-loop-i : goal.invariant-loop-i
+invariant-loop-i l = (l.i ≤ l.n) × (all_of is_plain (drop l.i l.s) ≡ all_of is_plain l.s)
+
+abbrev pub decreases-loop-i : goal.decreases-loop-i
+decreases-loop-i l = l.n - l.i

@@ -1,0 +1,11 @@
+use Rattle.std.proofs.Common.{◌≡◌, refl, ◌-◌, ◌^◌, ◌≤◌, ◌<◌, arith, drop}
+use Rattle.cases.specs.PickLaws.{cases}
+use Rattle.line.specs.ReadLaws.{ands, all_no, all_on, all_end, value_on, value_end, digit_room, room}
+use Rattle.line.specs.Shape.{all_of, is_digit, value_from, digits_of}
+use Rattle.line.proofs.shape.read_digits.Given as goal
+
+abbrev pub invariant-loop-i : goal.invariant-loop-i
+invariant-loop-i l = (l.i ≤ l.n) × (all_of is_digit (drop l.i l.s) ≡ all_of is_digit l.s) × (value_from l.v (drop l.i l.s) ≡ value_from 0 l.s) × (l.v < 10 ^ l.i)
+
+abbrev pub decreases-loop-i : goal.decreases-loop-i
+decreases-loop-i l = l.n - l.i

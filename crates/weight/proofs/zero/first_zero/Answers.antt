@@ -1,0 +1,8 @@
+use Rattle.std.proofs.Common.{arith, rules}
+use Rattle.weight.specs.Zero.{first_zero}
+use Rattle.weight.specs.ZeroLaws.{first_share_to}
+use Rattle.weight.proofs.zero.first_zero.Goals as goal
+
+pub returns : goal.returns
+unfolding first_zero
+returns c = rw (c.choose.ensures, c.within_share-ok.ensures, c.first_share.ensures)

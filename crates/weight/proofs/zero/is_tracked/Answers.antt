@@ -1,0 +1,10 @@
+use Rattle.std.proofs.Common.{ap, ◌∙◌, ◌&&◌, ◌*◌, arith, rules, ltb, nat_abs}
+use Rattle.whole.specs.Bits.{same_eq}
+use Rattle.weight.specs.Zero.{tracks}
+use Rattle.weight.proofs.zero.is_tracked.Goals as goal
+
+pub returns : goal.returns
+unfolding tracks
+returns c =
+    let e = c in
+    ap (λ n. ltb 0 n && ltb n (5 * e.args.rsn)) (c.size-n.ensures ∙ ap nat_abs (same_eq e.args.s.0 (omega arith)))
