@@ -146,7 +146,7 @@ unfolding after changes
 seal_run n u [] i l z = refl
 seal_run n u (e ∷ es) i l z =
     let q = seal_step i l (omega arith) (event u e) in
-    seal_run _ (next u e) es (inv_step i (event u e)) (omega arith) (omega arith) ∙ q.1
+    seal_run (n + counted (kind_of u e)) (next u e) es (inv_step i (event u e)) (omega arith) (omega arith) ∙ q.1
 
 -- if the unit is sealed at two moments and the counter reads the same at both, all sealed settings are throughout as at the first:
 -- the moments are any places in the events, also within a line, and zs = [] makes the second of them the one looked at

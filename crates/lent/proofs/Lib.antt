@@ -1,3 +1,0 @@
-pub mod Kit
-pub mod Takens
-pub mod Units

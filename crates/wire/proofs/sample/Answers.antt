@@ -1,0 +1,8 @@
+use Rattle.std.proofs.Common.{rules}
+use Rattle.cases.specs.PickLaws.{cases, named, yes_via}
+use Rattle.whole.specs.Bits.{par}
+use Rattle.state.specs.RangedLaws.{ranged_yes}
+use Rattle.wire.proofs.sample.Goals as goal
+
+pub take_sample-requires : goal.take_sample-requires
+take_sample-requires c = search (ranged_yes, named)

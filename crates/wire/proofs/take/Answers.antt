@@ -1,0 +1,7 @@
+use Rattle.std.proofs.Common.{refl, rules}
+use Rattle.cases.specs.PickLaws.{named, yes_via, no_via}
+use Rattle.state.specs.RangedLaws.{ranged_yes}
+use Rattle.wire.proofs.take.Goals as goal
+
+pub serve-requires : goal.serve-requires
+serve-requires c = search (ranged_yes, named)
