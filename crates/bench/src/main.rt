@@ -7,9 +7,12 @@ ghost use Rattle.std.specs.Prelude.{◌≡◌, true, ◌≤◌, ◌<◌, length,
 ghost use Rattle.state.specs.Sound.{sound_of};
 ghost use Rattle.session.specs.WalkLaws.{Walked};
 
-use libc::STDIN_FILENO;
 use session::{Event, State};
 use state::Unit;
+use std::io::Read;
+
+// So many bytes are read and written at once.
+const LARGE: usize = 65536;
 
 // After some bytes: the unit, where the line stands, and whether there were any.
 #[derive(Clone, Copy)]
@@ -94,7 +97,7 @@ fn left(u: Unit, s: State, n: usize) -> Bench
 
 // A command's bytes are handed on where they lie, once its line or what was read ends; ';' takes the LF's place. The room is for one reply only,
 // so that each is seen to end. The unit goes by value through as few functions as can be: its copies are what a line costs.
-fn serve(b: Bench, buf: &mut [u8], out: &mut [u8]) -> Bench
+fn serve(rt: &impl Print, b: Bench, buf: &mut [u8], out: &mut [u8]) -> Bench
     requires { (sound_of b.unit ≡ true) × (17 ≤ length out.old) }
     ensures { sound_of result.unit ≡ true }
 {
@@ -106,7 +109,7 @@ fn serve(b: Bench, buf: &mut [u8], out: &mut [u8]) -> Bench
     let mut to: usize = 0;
     while from < n {
         if from < to {
-            let p = pipe::place(out, o);
+            let p = pipe::place(rt, out, o);
             let e = p + reply::ROOM;
             let t = serving::serve(u, &buf[from..to], &mut out[p..e]);
             u = t.next;
@@ -127,29 +130,38 @@ fn serve(b: Bench, buf: &mut [u8], out: &mut [u8]) -> Bench
         to += 1;
         let Event::Command = e else {
             from = to;
-            o = pipe::marked(e, out, o);
+            o = pipe::marked(rt, e, out, o);
             u = pipe::happened(u, e);
             continue;
         };
     }
-    pipe::write(out, o);
+    pipe::write(rt, out, o);
     left(u, s, n)
 }
 
+// How many bytes were read; a read that fails ends the input.
+fn read(input: &mut impl Read, buf: &mut [u8]) -> usize
+    ensures { result ≤ length buf.old }
+{
+    match input.read(buf) {
+        Ok(n) => n,
+        Err(_) => 0,
+    }
+}
+
 // Reads once. The replies are written before more is read, so that they come at a terminal too.
-fn turn(b: Bench) -> Bench
+fn turn(rt: &impl Print, input: &mut impl Read, b: Bench) -> Bench
     requires { sound_of b.unit ≡ true }
     ensures { sound_of result.unit ≡ true }
 {
-    let mut buf = io::large_buffer();
-    let mut out = io::large_buffer();
-    let got = libc::read(STDIN_FILENO, &mut buf);
-    let n = io::count(got, &buf);
-    serve(b, &mut buf[..n], &mut out)
+    let mut buf = [0u8; LARGE];
+    let mut out = [0u8; LARGE];
+    let n = read(input, &mut buf);
+    serve(rt, b, &mut buf[..n], &mut out)
 }
 
 // A last line without its LF counts as ended.
-fn close(b: Bench)
+fn close(rt: &impl Print, b: Bench)
     requires { sound_of b.unit ≡ true }
 {
     let s = b.state;
@@ -160,12 +172,13 @@ fn close(b: Bench)
         _ => {}
     }
     let mut end = [b'\n'];
-    let mut out = io::buffer();
-    serve(b, &mut end, &mut out);
+    let mut out = [0u8; 4096];
+    serve(rt, b, &mut end, &mut out);
 }
 
 // A proved loop has to end, and nothing says that the input does: the turns are counted down from a number that no run uses up.
-fn main() {
+fn main(rt: HostRuntime) {
+    let mut input = rt.stdin();
     let mut b = Bench {
         unit: wire::new(),
         state: State::Start,
@@ -174,10 +187,10 @@ fn main() {
     let mut turns = u64::MAX;
     while turns > 0 {
         turns -= 1;
-        b = turn(b);
+        b = turn(&rt, &mut input, b);
         if !b.more {
             break;
         }
     }
-    close(b);
+    close(&rt, b);
 }

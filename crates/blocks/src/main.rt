@@ -5,9 +5,12 @@
 ghost use Rattle.std.specs.Prelude.{◌≡◌, true, ◌≤◌, ◌<◌, length};
 ghost use Rattle.state.specs.Sound.{sound_of};
 
-use libc::STDIN_FILENO;
 use session::{Event, State};
 use state::Unit;
+use std::io::Read;
+
+// So many bytes are read and written at once.
+const LARGE: usize = 65536;
 
 // A block has at most so many bytes, and a room too; a line that asks for more is none.
 const MOST: usize = 1024;
@@ -157,23 +160,23 @@ fn moved(s: Stage, b: u8) -> Next {
     }
 }
 
-fn text(s: &[u8], out: &mut [u8], o: usize) -> usize
+fn text(rt: &impl Print, s: &[u8], out: &mut [u8], o: usize) -> usize
     requires { 17 ≤ length out.old }
 {
     let mut p = o;
     let mut i: usize = 0;
     while i < s.len() {
-        p = pipe::put(out, p, s[i]);
+        p = pipe::put(rt, out, p, s[i]);
         i += 1;
     }
     p
 }
 
-fn pair(b: u8, out: &mut [u8], o: usize) -> usize
+fn pair(rt: &impl Print, b: u8, out: &mut [u8], o: usize) -> usize
     requires { 17 ≤ length out.old }
 {
-    let p = pipe::put(out, o, glyph(b / 16));
-    pipe::put(out, p, glyph(b % 16))
+    let p = pipe::put(rt, out, o, glyph(b / 16));
+    pipe::put(rt, out, p, glyph(b % 16))
 }
 
 // No more was written than the room has.
@@ -183,30 +186,30 @@ fn capped(w: usize) -> usize
     if w < MOST { w } else { MOST }
 }
 
-fn hex(room: &[u8; MOST], w: usize, out: &mut [u8], o: usize) -> usize
+fn hex(rt: &impl Print, room: &[u8; MOST], w: usize, out: &mut [u8], o: usize) -> usize
     requires { 17 ≤ length out.old }
 {
     let n = capped(w);
     let mut p = o;
     let mut i: usize = 0;
     while i < n {
-        p = pair(room[i], out, p);
+        p = pair(rt, room[i], out, p);
         i += 1;
     }
     p
 }
 
-fn number(n: usize, out: &mut [u8], o: usize) -> usize
+fn number(rt: &impl Print, n: usize, out: &mut [u8], o: usize) -> usize
     requires { 17 ≤ length out.old }
 {
     let mut digits = [0u8; 20];
     let k = io::decimal(n as u64, &mut digits);
-    let p = text(&digits[..k], out, o);
-    pipe::put(out, p, b' ')
+    let p = text(rt, &digits[..k], out, o);
+    pipe::put(rt, out, p, b' ')
 }
 
 // A block, and the room of n bytes that it is given.
-fn take(u: Unit, bytes: &[u8], n: usize, out: &mut [u8], o: usize) -> Served
+fn take(rt: &impl Print, u: Unit, bytes: &[u8], n: usize, out: &mut [u8], o: usize) -> Served
     requires { (sound_of u ≡ true) × ((n ≤ 1024) × (17 ≤ length out.old)) }
     ensures { sound_of result.unit ≡ true }
 {
@@ -215,24 +218,24 @@ fn take(u: Unit, bytes: &[u8], n: usize, out: &mut [u8], o: usize) -> Served
     let t = wire::take(u, bytes, &mut room[from..n]);
     let v = t.next;
     let w = t.written;
-    let p = number(t.taken, out, o);
-    let q = number(w, out, p);
-    let r = hex(&room, w, out, q);
+    let p = number(rt, t.taken, out, o);
+    let q = number(rt, w, out, p);
+    let r = hex(rt, &room, w, out, q);
     Served {
         unit: v,
-        out: pipe::put(out, r, b'\n'),
+        out: pipe::put(rt, out, r, b'\n'),
     }
 }
 
 // Here a command's line is none.
-fn other(u: Unit, s: State, out: &mut [u8], o: usize) -> Served
+fn other(rt: &impl Print, u: Unit, s: State, out: &mut [u8], o: usize) -> Served
     requires { (sound_of u ≡ true) × (17 ≤ length out.old) }
     ensures { sound_of result.unit ≡ true }
 {
     let e = no_command(session::ended(s));
     Served {
         unit: pipe::happened(u, e),
-        out: pipe::marked(e, out, o),
+        out: pipe::marked(rt, e, out, o),
     }
 }
 
@@ -254,6 +257,7 @@ fn first(bytes: &[u8], k: usize) -> &[u8] {
 
 // A line ended, with k bytes of a block.
 fn ended(
+    rt: &impl Print,
     u: Unit,
     stage: Stage,
     s: State,
@@ -266,12 +270,12 @@ fn ended(
     ensures { sound_of result.unit ≡ true }
 {
     let Stage::Whole(n) = stage else {
-        return other(u, s, out, o);
+        return other(rt, u, s, out, o);
     };
     if MOST < n {
-        return other(u, s, out, o);
+        return other(rt, u, s, out, o);
     }
-    take(u, first(bytes, k), n, out, o)
+    take(rt, u, first(bytes, k), n, out, o)
 }
 
 // What is left of n bytes.
@@ -288,7 +292,7 @@ fn left(u: Unit, g: Stage, s: State, bytes: [u8; MOST], k: usize, n: usize) -> B
     }
 }
 
-fn serve(b: Blocks, buf: &[u8], out: &mut [u8]) -> Blocks
+fn serve(rt: &impl Print, b: Blocks, buf: &[u8], out: &mut [u8]) -> Blocks
     requires { (sound_of b.unit ≡ true) × (17 ≤ length out.old) }
     ensures { sound_of result.unit ≡ true }
 {
@@ -304,7 +308,7 @@ fn serve(b: Blocks, buf: &[u8], out: &mut [u8]) -> Blocks
         let c = buf[i];
         i += 1;
         if c == b'\n' {
-            let d = ended(u, g, s, &bytes, k, out, o);
+            let d = ended(rt, u, g, s, &bytes, k, out, o);
             let v = d.unit;
             u = v;
             o = d.out;
@@ -327,24 +331,33 @@ fn serve(b: Blocks, buf: &[u8], out: &mut [u8]) -> Blocks
         }
         g = Stage::Other;
     }
-    pipe::write(out, o);
+    pipe::write(rt, out, o);
     left(u, g, s, bytes, k, n)
 }
 
+// How many bytes were read; a read that fails ends the input.
+fn read(input: &mut impl Read, buf: &mut [u8]) -> usize
+    ensures { result ≤ length buf.old }
+{
+    match input.read(buf) {
+        Ok(n) => n,
+        Err(_) => 0,
+    }
+}
+
 // Reads once. What is printed is written before more is read, so that it comes at a terminal too.
-fn turn(b: Blocks) -> Blocks
+fn turn(rt: &impl Print, input: &mut impl Read, b: Blocks) -> Blocks
     requires { sound_of b.unit ≡ true }
     ensures { sound_of result.unit ≡ true }
 {
-    let mut buf = io::large_buffer();
-    let mut out = io::large_buffer();
-    let got = libc::read(STDIN_FILENO, &mut buf);
-    let n = io::count(got, &buf);
-    serve(b, &buf[..n], &mut out)
+    let mut buf = [0u8; LARGE];
+    let mut out = [0u8; LARGE];
+    let n = read(input, &mut buf);
+    serve(rt, b, &buf[..n], &mut out)
 }
 
 // A last line without its LF counts as ended.
-fn close(b: Blocks)
+fn close(rt: &impl Print, b: Blocks)
     requires { sound_of b.unit ≡ true }
 {
     let s = b.state;
@@ -354,12 +367,13 @@ fn close(b: Blocks)
         }
         _ => {}
     }
-    let mut out = io::buffer();
-    serve(b, b"\n", &mut out);
+    let mut out = [0u8; 4096];
+    serve(rt, b, b"\n", &mut out);
 }
 
 // A proved loop has to end, and nothing says that the input does: the turns are counted down from a number that no run uses up.
-fn main() {
+fn main(rt: HostRuntime) {
+    let mut input = rt.stdin();
     let mut b = Blocks {
         unit: wire::new(),
         stage: Stage::Start,
@@ -371,10 +385,10 @@ fn main() {
     let mut turns = u64::MAX;
     while turns > 0 {
         turns -= 1;
-        b = turn(b);
+        b = turn(&rt, &mut input, b);
         if !b.more {
             break;
         }
     }
-    close(b);
+    close(&rt, b);
 }

@@ -5,43 +5,45 @@ ghost use Rattle.std.specs.Prelude.{◌≡◌, true, ◌+◌, ◌-◌, ◌≤◌
 ghost use Rattle.state.specs.Sound.{sound_of};
 ghost use Rattle.session.specs.declared.Event.TheVariants.{None};
 
-use libc::STDOUT_FILENO;
 use session::Event;
 use state::{Unit, changes};
 
-// Nothing is promised: what is written lies outside the proofs, and is run and compared (decision 33, docs/DECISIONS.md).
-pub fn write(out: &[u8], o: usize) {
-    let from: usize = 0;
+// Nothing is promised: what is written lies outside the proofs, and is run and compared (decision 33, docs/DECISIONS.md). Where writing fails, no one
+// is left to tell: the lines that follow are taken as ever.
+pub fn write(rt: &impl Print, out: &[u8], o: usize) {
     if o <= out.len() {
-        io::write_all(STDOUT_FILENO, &out[from..o]);
+        match rt.write_all(&out[..o]) {
+            Ok(()) => {}
+            Err(_) => {}
+        }
     }
 }
 
 // Where a reply fits: at o, or at the start once what waits there is written.
-pub fn place(out: &[u8], o: usize) -> usize
+pub fn place(rt: &impl Print, out: &[u8], o: usize) -> usize
     requires { 17 ≤ length out.now }
     ensures { result + 17 ≤ length out.now }
 {
     if o <= out.len() - reply::ROOM {
         return o;
     }
-    write(out, o);
+    write(rt, out, o);
     0
 }
 
 // The byte is the last that waits.
-pub fn put(out: &mut [u8], o: usize, b: u8) -> usize
+pub fn put(rt: &impl Print, out: &mut [u8], o: usize, b: u8) -> usize
     requires { 17 ≤ length out.old }
     ensures rest { (1 ≤ result) × (out.new ≡ set out.old (result - 1) b) }
     ensures last { get_or out.new (result - 1) 0 ≡ b }
 {
-    let p = place(out, o);
+    let p = place(rt, out, o);
     out[p] = b;
     p + 1
 }
 
 // A line of no form is marked.
-pub fn marked(e: Event, out: &mut [u8], o: usize) -> usize
+pub fn marked(rt: &impl Print, e: Event, out: &mut [u8], o: usize) -> usize
     requires { 17 ≤ length out.old }
     ensures none { e ≡ None → get_or out.new (result - 1) 0 ≡ 0x0a }
     ensures other { (e ≡ None → ⊥) → (result ≡ o) × (out.new ≡ out.old) }
@@ -49,8 +51,8 @@ pub fn marked(e: Event, out: &mut [u8], o: usize) -> usize
     let Event::None = e else {
         return o;
     };
-    let p = put(out, o, b'!');
-    put(out, p, b'\n')
+    let p = put(rt, out, o, b'!');
+    put(rt, out, p, b'\n')
 }
 
 // A sample or a restart; no other line changes the unit here. A sound unit needs no look at its ranges, and stays sound.

@@ -1,0 +1,10 @@
+use Rattle.std.proofs.Common.{true, ◌≡◌, ⊎_elim, arith, rules}
+use Rattle.state.specs.Sound.{sound_of}
+use Rattle.state.specs.SoundLaws.{new_sound}
+use Rattle.bench.proofs.main.Given as goal
+
+abbrev pub invariant-loop-turns : goal.invariant-loop-turns
+invariant-loop-turns l = sound_of l.b.unit ≡ true
+
+abbrev pub decreases-loop-turns : goal.decreases-loop-turns
+decreases-loop-turns l = l.turns
