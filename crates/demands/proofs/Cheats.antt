@@ -26,7 +26,7 @@ use Rattle.serving.specs.Step.{step_next, step_text}
 use Rattle.state.specs.declared.Unit.{Unit as TheUnit}
 use Rattle.state.specs.Changes.{new_unit}
 use Rattle.state.specs.RangedLaws.{Ranged, yes_ranged}
-use Rattle.state.specs.SoundLaws.{new_sound, sound_yes}
+use Rattle.state.proofs.SoundLaws.{new_sound, sound_yes}
 use Rattle.weighing.specs.SampleLaws.{sampled_sound}
 use Rattle.serving.specs.declared.Taken.{Taken}
 use Rattle.serving.specs.Machine.{machine, taken_of}

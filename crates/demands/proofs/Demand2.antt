@@ -18,12 +18,12 @@ use Rattle.weight.specs.declared.Tenths.{Tenths}
 use Rattle.weight.specs.Weight.{as_cell}
 use Rattle.weight.specs.Display.{cell_place, shown_at}
 use Rattle.weight.specs.Zero.{within_share}
-use Rattle.weight.specs.ZeroLaws.{tracked_cases}
+use Rattle.weight.proofs.ZeroLaws.{tracked_cases}
 use Rattle.state.specs.declared.Unit.{Unit as TheUnit}
 use Rattle.state.specs.Changes.{restarted_of}
 use Rattle.state.specs.RangedLaws.{yes_ranged}
 use Rattle.state.specs.Sound.{BandedOf}
-use Rattle.state.specs.SoundLaws.{sound_yes}
+use Rattle.state.proofs.SoundLaws.{sound_yes}
 use Rattle.weighing.specs.Reading.{seen_at, sampled_of, steady_of, gross_now, net_now, value_now, place_now, shown_now, read_at, read_by, reading_of}
 use Rattle.weighing.specs.SampleLaws.{net_now_lem}
 use Rattle.weighing.specs.Samples.{seeing, tracks_now, tracked_now}

@@ -19,7 +19,8 @@ use Rattle.state.specs.Changes.{ceiling}
 use Rattle.plans.specs.Obey.{obey_of, judge}
 use Rattle.plans.specs.JudgeLaws.{obeyed}
 use Rattle.plans.specs.Kinds.{Kind, plain, saving, trading, kind_line}
-use Rattle.plans.specs.Effects.{Store, store_of, Effect, keeps, alters, recalls, saves, trades, effect}
+use Rattle.plans.specs.Effects.{Store, store_of, Effect, keeps, alters, recalls, saves, trades}
+use Rattle.plans.proofs.Effects.{effect}
 use Rattle.serving.specs.declared.Taken.{Taken}
 use Rattle.serving.specs.Step.{step_next, step_text, ended_unit, moved_unit}
 use Rattle.demands.specs.Host.{New, Event, byte, sample, power, next, after, bytes, ends, shape, Call, Took, Restarted, handed, Calls, last, events, all_events}

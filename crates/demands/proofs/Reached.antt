@@ -13,12 +13,12 @@ use Rattle.line.specs.CutLaws.{fed_cut}
 use Rattle.line.specs.LineLaws.{kept_list}
 use Rattle.state.specs.declared.Unit.{Unit as TheUnit}
 use Rattle.state.specs.Sound.{sound_of}
-use Rattle.state.specs.SoundLaws.{new_sound, restarted_sound}
+use Rattle.state.proofs.SoundLaws.{new_sound, restarted_sound}
 use Rattle.weighing.specs.SampleLaws.{sampled_sound}
 use Rattle.plans.specs.Obey.{obey_of}
 use Rattle.serving.specs.Step.{ended_unit, moved_unit, step_next, step_text}
 use Rattle.serving.specs.Machine.{machine}
-use Rattle.serving.specs.TurnLaws.{step_sound}
+use Rattle.serving.proofs.TurnLaws.{step_sound}
 use Rattle.demands.specs.Host.{New, Event, byte, sample, power, next, reply, after, replies, bytes, ends, line}
 
 -- ---- some events and then others

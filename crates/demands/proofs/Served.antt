@@ -11,7 +11,7 @@ use Rattle.cases.specs.EachLaws.{Stopped}
 use Rattle.state.specs.declared.Unit.{Unit as TheUnit}
 use Rattle.state.specs.RangedLaws.{Ranged, yes_ranged}
 use Rattle.state.specs.Sound.{sound_of}
-use Rattle.state.specs.SoundLaws.{sound_yes}
+use Rattle.state.proofs.SoundLaws.{sound_yes}
 use Rattle.serving.specs.Machine.{machine, taken_of}
 use Rattle.wire.specs.Wire.{block_of}
 use Rattle.wire.specs.WireLaws.{block_each, block_fits}

@@ -7,7 +7,5 @@ pub mod Param
 pub mod Shape
 pub mod ReadLaws
 pub mod Written
-pub mod ShapeLaws
 pub mod PlaceLaws
-pub mod SentLaws
 pub mod Rows

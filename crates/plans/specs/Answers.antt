@@ -15,7 +15,7 @@ use Rattle.line.specs.declared.shape.Shape.TheVariants as shape
 use Rattle.line.specs.Param.{is_query, is_nothing}
 use Rattle.line.specs.Shape.{shape_of}
 use Rattle.reply.specs.Reply.{places_of, digits_of, word_of, crlf, refused_text, done_text, digits_text, blank_text, pair_text, signed_text, status_text, word4_text, word2_text}
-use Rattle.reply.specs.ReadLaws.{length_digits, length_places}
+use Rattle.reply.proofs.ReadLaws.{length_digits, length_places}
 use Rattle.state.specs.declared.Unit.{Unit as TheUnit}
 use Rattle.state.specs.Changes.{restarted_of}
 use Rattle.plans.specs.Needs.{Fits}

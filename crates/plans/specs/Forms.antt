@@ -5,7 +5,7 @@ use Rattle.line.specs.declared.names.Name.{Name}
 use Rattle.line.specs.declared.names.Name.TheVariants as name
 use Rattle.line.specs.declared.shape.Param.{Param}
 use Rattle.reply.specs.Reply.{ROOM, digits_of, word_of, signed_of, ended, done_text, digits_text, blank_text, pair_text, signed_text, status_text, word4_text, word2_text}
-use Rattle.reply.specs.ReadLaws.{short}
+use Rattle.reply.proofs.ReadLaws.{short}
 use Rattle.weight.specs.Display.{in_decimal, in_four, in_two}
 use Rattle.weighing.specs.Reading.{shown_now}
 use Rattle.state.specs.declared.Unit.{Unit as TheUnit}

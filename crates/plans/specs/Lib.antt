@@ -11,7 +11,5 @@ pub mod LockLaws
 pub mod Refusals
 pub mod Forms
 pub mod Answers
-pub mod Effects
-pub mod Keeps
-pub mod Bands
 pub mod ReasonLaws
+pub mod Effects

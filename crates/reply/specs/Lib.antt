@@ -4,5 +4,4 @@ pub mod PushLaws
 pub mod ApartLaws
 pub mod PutLaws
 pub mod Read
-pub mod ReadLaws
 pub mod Worked

@@ -1,5 +1,3 @@
 pub mod Step
 pub mod StepLaws
 pub mod Machine
-pub mod TurnLaws
-pub mod KeepLaws

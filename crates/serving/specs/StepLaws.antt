@@ -6,7 +6,7 @@ use Rattle.cases.specs.PickLaws.{split}
 use Rattle.line.specs.declared.cut.Pos.{Pos}
 use Rattle.line.specs.Line.{moved_of}
 use Rattle.reply.specs.Reply.{ROOM}
-use Rattle.reply.specs.ReadLaws.{done_short, refused_short}
+use Rattle.reply.proofs.ReadLaws.{done_short, refused_short}
 use Rattle.state.specs.declared.Unit.{Unit as TheUnit}
 use Rattle.plans.specs.Obey.{Outcome, obey_of}
 use Rattle.plans.specs.JudgeLaws.{every_line}

@@ -7,4 +7,3 @@ pub mod Ranged
 pub mod RangedLaws
 pub mod KeepLaws
 pub mod Sound
-pub mod SoundLaws

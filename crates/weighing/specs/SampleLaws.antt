@@ -5,14 +5,14 @@ use Rattle.cases.specs.Pick.{pick}
 use Rattle.cases.specs.PickLaws.{split}
 use Rattle.cases.specs.TestsLaws.{yes_all}
 use Rattle.weight.specs.Zero.{within_share, later_share, first_share}
-use Rattle.weight.specs.ZeroLaws.{share_small, first_share_to, later_share_to, first_within, tracked_within}
+use Rattle.weight.proofs.ZeroLaws.{share_small, first_share_to, later_share_to, first_within, tracked_within}
 use Rattle.weight.specs.DisplayLaws.{net_and_tare}
 use Rattle.state.specs.declared.Unit.{Unit as TheUnit}
 use Rattle.state.specs.Ranged.{zeros_tests, zeros_in}
 use Rattle.state.specs.RangedLaws.{Ranged}
 use Rattle.state.specs.KeepLaws.{in_use_keeps, counter_in}
 use Rattle.state.specs.Sound.{first_in, later_in, sound_of, BandedOf}
-use Rattle.state.specs.SoundLaws.{sound_yes, yes_sound}
+use Rattle.state.proofs.SoundLaws.{sound_yes, yes_sound}
 use Rattle.weighing.specs.Reading.{steady_of, seen_of, gross_now, net_now}
 use Rattle.weighing.specs.Samples.{seeing, tries, first_now, tracks_now, tracked_now, zeros_now, zeroing, sample_of}
 use Rattle.weighing.specs.RangeLaws.{scale_now, seeing_ranged}

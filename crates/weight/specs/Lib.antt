@@ -6,4 +6,3 @@ pub mod Zero
 pub mod Ranges
 pub mod SetsLaws
 pub mod DisplayLaws
-pub mod ZeroLaws

@@ -3,7 +3,7 @@ use Rattle.std.specs.Prelude.{◌≡◌, ℕ, ◌*◌, ◌<◌}
 use Rattle.std.proofs.Common.{sym, ◌∙◌, arith, mul_comm, mul_assoc}
 use Rattle.std.proofs.Math.Path.{ap}
 use Rattle.std.proofs.Math.IntN.{pos}
-use Rattle.whole.specs.RoundLaws.{round_exact, round_div_mul, round_div_exact}
+use Rattle.whole.proofs.RoundLaws.{round_exact, round_div_mul, round_div_exact}
 use Rattle.weight.specs.declared.Scale.{Scale}
 use Rattle.weight.specs.Weight.{as_tenths, corrected, span_of, tenths}
 

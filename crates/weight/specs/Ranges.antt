@@ -4,7 +4,7 @@ use Rattle.std.proofs.Common.{mul-le-mul, arith}
 use Rattle.whole.specs.Round.{round_div}
 use Rattle.whole.specs.Sizes.{abs_sub, abs_mul}
 use Rattle.whole.specs.Order.{at_least}
-use Rattle.whole.specs.RoundLaws.{round_div_bound, round_div_abs, round_low}
+use Rattle.whole.proofs.RoundLaws.{round_div_bound, round_div_abs, round_low}
 use Rattle.weight.specs.declared.Cell.{Cell}
 use Rattle.weight.specs.declared.Tenths.{Tenths}
 use Rattle.weight.specs.declared.Digits.{Digits}

@@ -3,5 +3,4 @@ pub mod Sets
 pub mod SetsLaws
 pub mod Sizes
 pub mod Order
-pub mod RoundLaws
 pub mod Bits

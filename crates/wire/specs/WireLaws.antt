@@ -9,12 +9,12 @@ use Rattle.state.specs.declared.Unit.{Unit as TheUnit}
 use Rattle.state.specs.Ranged.{ranged_of}
 use Rattle.state.specs.RangedLaws.{Ranged, yes_ranged}
 use Rattle.state.specs.Sound.{sound_of}
-use Rattle.state.specs.SoundLaws.{sound_yes}
+use Rattle.state.proofs.SoundLaws.{sound_yes}
 use Rattle.serving.specs.Machine.{machine, taken_of}
 use Rattle.wire.specs.Wire.{block_of}
 use Rattle.cases.specs.Each.{next_by, text_by}
 use Rattle.cases.specs.EachLaws.{Stopped, run_each, next_append, text_append}
-use Rattle.serving.specs.KeepLaws.{run_ranged, run_sound}
+use Rattle.serving.proofs.KeepLaws.{run_ranged, run_sound}
 
 -- ---- the guard
 -- a unit in range is served by the plain rules

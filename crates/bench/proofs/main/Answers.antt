@@ -1,4 +1,4 @@
-use Rattle.state.specs.SoundLaws.{new_sound}
+use Rattle.state.proofs.SoundLaws.{new_sound}
 use Rattle.bench.proofs.main.Goals as goal
 
 pub loop-turns-init : goal.loop-turns-init

@@ -1,6 +1,6 @@
 use Rattle.std.proofs.Common.{arith}
-use Rattle.state.specs.SoundLaws.{sound_yes}
-use Rattle.serving.specs.KeepLaws.{run_sound}
+use Rattle.state.proofs.SoundLaws.{sound_yes}
+use Rattle.serving.proofs.KeepLaws.{run_sound}
 use Rattle.bench.proofs.serve.Goals as goal
 
 pub serve-t-requires : goal.serve-t-requires

@@ -1,5 +1,5 @@
 use Rattle.std.proofs.Common.{rules, arith}
-use Rattle.weight.specs.ZeroLaws.{later_share_to}
+use Rattle.weight.proofs.ZeroLaws.{later_share_to}
 use Rattle.weighing.specs.RangeLaws.{scale_now}
 use Rattle.measuring.proofs.clears.Goals as goal
 

@@ -1,6 +1,6 @@
 use Rattle.std.proofs.Common.{true, ◌≡◌, rules}
 use Rattle.state.specs.Sound.{sound_of}
-use Rattle.state.specs.SoundLaws.{sound_yes, restarted_sound}
+use Rattle.state.proofs.SoundLaws.{sound_yes, restarted_sound}
 use Rattle.weighing.specs.SampleLaws.{sampled_sound}
 use Rattle.pipe.proofs.happened.Goals as goal
 

@@ -1,5 +1,5 @@
 use Rattle.std.proofs.Common.{rules, sym, ◌∙◌, arith}
-use Rattle.session.specs.SampleLaws.{digit_low}
+use Rattle.session.proofs.SampleLaws.{digit_low}
 use Rattle.session.specs.Reader.{digit_of}
 use Rattle.session.proofs.digit.Goals as goal
 

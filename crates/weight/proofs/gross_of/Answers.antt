@@ -1,7 +1,7 @@
 use Rattle.std.proofs.Common.{◌≡◌, ap, ◌∙◌, ◌*◌, ◌≤◌, arith, mul-le-mul, rules, ℤ, pos, nat_abs, ◌*ℤ◌}
 use Rattle.whole.specs.Round.{round_div}
 use Rattle.whole.specs.Sizes.{times_one}
-use Rattle.whole.specs.RoundLaws.{round_div_bound}
+use Rattle.whole.proofs.RoundLaws.{round_div_bound}
 use Rattle.whole.specs.Bits.{small, ran, nat, mul_fits, mul_is}
 use Rattle.weight.specs.Weight.{gross, as_digits}
 use Rattle.weight.proofs.gross_of.Goals as goal

@@ -1,6 +1,6 @@
 use Rattle.std.proofs.Common.{◌≡◌, ◌*◌, ℕ, ℤ, nat_abs, sym, ap, ◌∙◌, arith, w64, FitsSigned, to_z, of_z}
 use Rattle.whole.specs.Round.{round_nat, like}
-use Rattle.whole.specs.RoundLaws.{round_le, round_div_mul}
+use Rattle.whole.proofs.RoundLaws.{round_le, round_div_mul}
 use Rattle.whole.specs.Bits.{par, ran}
 use Rattle.whole.proofs.round_mul_div.Goals as goal
 

@@ -1,6 +1,6 @@
 use Rattle.std.proofs.Common.{arith, rules}
 use Rattle.weight.specs.Zero.{tracked}
-use Rattle.weight.specs.ZeroLaws.{moved_to}
+use Rattle.weight.proofs.ZeroLaws.{moved_to}
 use Rattle.weight.proofs.zero.tracked_zero.Goals as goal
 
 pub within_share-after-requires : goal.within_share-after-requires

@@ -12,11 +12,11 @@ use Rattle.state.specs.declared.Unit.{Unit as TheUnit}
 use Rattle.state.specs.Settings.{factory_of}
 use Rattle.state.specs.Changes.{saved_of, recalled_of, traded_of}
 use Rattle.state.specs.Sound.{tare_in, sound_of, Banded, BandedOf}
-use Rattle.state.specs.SoundLaws.{sound_yes, yes_sound, zero_tare, reset_banded, recalled_banded, restarted_banded}
+use Rattle.state.proofs.SoundLaws.{sound_yes, yes_sound, zero_tare, reset_banded, recalled_banded, restarted_banded}
 use Rattle.plans.specs.Plans.{size, command_plan}
 use Rattle.plans.specs.Obey.{Outcome, obey_of, AllHold}
 use Rattle.plans.specs.JudgeLaws.{every_line, query_by}
-use Rattle.plans.specs.Keeps.{obey_ranged}
+use Rattle.plans.proofs.Keeps.{obey_ranged}
 
 module _ (u : TheUnit) (b : BandedOf u) where
   -- another tare in its range

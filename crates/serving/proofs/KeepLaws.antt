@@ -10,7 +10,7 @@ use Rattle.state.specs.declared.Unit.{Unit as TheUnit}
 use Rattle.state.specs.RangedLaws.{Ranged}
 use Rattle.state.specs.Sound.{sound_of}
 use Rattle.serving.specs.Machine.{machine}
-use Rattle.serving.specs.TurnLaws.{step_ranged, step_sound}
+use Rattle.serving.proofs.TurnLaws.{step_ranged, step_sound}
 
 -- ---- a run keeps what each byte keeps
 module _ (P : TheUnit → Type 0) (kept : (u : TheUnit) (b : ℕ) → P u → P (machine.next u b)) where

@@ -13,7 +13,7 @@ use Rattle.session.specs.declared.Event.{Event}
 use Rattle.session.specs.declared.Event.TheVariants as event
 use Rattle.session.specs.Form.{words_of, is_byte, is_digit, all_digits, value_from, has_minus, size_in, signed_of, sample_of, sample_in, event_of, command_of}
 use Rattle.session.specs.Reader.{decimal, grown_of, digit_of, on_of, first_of, sign_of, more_of, flag_of, next_of, pass_of, ended_of, state_after, handed_on}
-use Rattle.session.specs.SampleLaws.{beyond}
+use Rattle.session.proofs.SampleLaws.{beyond}
 
 -- both ways of a test
 either : {A : Type 0} (t : Bool) → (t ≡ true → A) → (t ≡ false → A) → A

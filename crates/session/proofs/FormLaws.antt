@@ -10,7 +10,7 @@ use Rattle.cases.specs.TestsLaws.{both_yes}
 use Rattle.session.specs.declared.Event.{Event}
 use Rattle.session.specs.declared.Event.TheVariants as event
 use Rattle.session.specs.Form.{words_of, is_byte, is_digit, all_digits, is_digits, value_from, has_minus, size_in, signed_of, in_range, sample_of, sample_in, is_command, event_of, command_of}
-use Rattle.session.specs.SampleLaws.{minus_some, plus_some, digit_low}
+use Rattle.session.proofs.SampleLaws.{minus_some, plus_some, digit_low}
 use Rattle.session.specs.Written.{decimal_in, text_in, sample_line, IsSample, joined}
 
 -- ---- read back

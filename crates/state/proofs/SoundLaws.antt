@@ -8,7 +8,7 @@ use Rattle.cases.specs.TestsLaws.{all_yes, yes_all}
 use Rattle.whole.specs.Sets.{Between, Sized, has, inside}
 use Rattle.weight.specs.Weight.{as_digits}
 use Rattle.weight.specs.Sets.{tares}
-use Rattle.weight.specs.ZeroLaws.{zero_within}
+use Rattle.weight.proofs.ZeroLaws.{zero_within}
 use Rattle.state.specs.declared.Settings.{Settings}
 use Rattle.state.specs.declared.Unit.{Unit as TheUnit}
 use Rattle.state.specs.Settings.{factory_of}

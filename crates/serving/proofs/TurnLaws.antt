@@ -11,18 +11,18 @@ use Rattle.line.specs.declared.cut.Pos.{Pos}
 use Rattle.line.specs.declared.cut.Moved.{Moved}
 use Rattle.line.specs.Line.{none_kept, fresh_pos, moved_of, stored_of}
 use Rattle.reply.specs.Reply.{fitting, over, reply_of}
-use Rattle.reply.specs.ReadLaws.{fits}
+use Rattle.reply.proofs.ReadLaws.{fits}
 use Rattle.state.specs.declared.Unit.{Unit as TheUnit}
 use Rattle.state.specs.Changes.{lined}
 use Rattle.state.specs.Parts.{changed_by}
 use Rattle.state.specs.RangedLaws.{Ranged}
 use Rattle.state.specs.Sound.{sound_of}
-use Rattle.state.specs.SoundLaws.{sound_yes, yes_sound}
+use Rattle.state.proofs.SoundLaws.{sound_yes, yes_sound}
 use Rattle.plans.specs.declared.Obeyed.{Obeyed}
 use Rattle.plans.specs.Obey.{obey_of}
 use Rattle.plans.specs.ObeyLaws.{Answer, answer_of, obeyed_as}
-use Rattle.plans.specs.Keeps.{obey_ranged}
-use Rattle.plans.specs.Bands.{obey_sound}
+use Rattle.plans.proofs.Keeps.{obey_ranged}
+use Rattle.plans.proofs.Bands.{obey_sound}
 use Rattle.serving.specs.Step.{ended_unit, step_next, step_text}
 use Rattle.serving.specs.StepLaws.{obey_short}
 use Rattle.serving.specs.Machine.{machine, taken_of}

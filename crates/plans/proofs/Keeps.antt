@@ -20,7 +20,7 @@ use Rattle.weight.specs.declared.Digits.{Digits}
 use Rattle.weight.specs.Weight.{as_digits}
 use Rattle.weight.specs.Sets.{gravities, loads, cells, tares, spans, point_tests, curve_tests}
 use Rattle.weight.specs.Zero.{within_share, later_share}
-use Rattle.weight.specs.ZeroLaws.{share_small, later_share_to}
+use Rattle.weight.proofs.ZeroLaws.{share_small, later_share_to}
 use Rattle.state.specs.declared.Setting.{Setting}
 use Rattle.state.specs.declared.Setting.TheVariants as setting
 use Rattle.state.specs.declared.Free.{Free}

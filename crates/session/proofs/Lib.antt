@@ -1,0 +1,3 @@
+pub mod SampleLaws
+pub mod FormLaws
+pub mod ReaderLaws
