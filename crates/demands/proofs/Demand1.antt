@@ -20,7 +20,7 @@ use Rattle.plans.specs.JudgeLaws.{why, obeyed, judged_line}
 use Rattle.plans.specs.Order.{InOrder, in_order}
 use Rattle.plans.specs.LockLaws.{BySpw, eleven_by_spw}
 use Rattle.plans.specs.Answers.{refused_first, done_other}
-use Rattle.plans.specs.ReasonLaws.{reason_stays}
+use Rattle.plans.proofs.ReasonLaws.{reason_stays}
 use Rattle.demands.specs.Host.{byte, next, reply, ends, line, shape, plan}
 use Rattle.demands.specs.Words.{Refused, Ended}
 use Rattle.demands.specs.Words as ended

@@ -1,7 +1,7 @@
 -- Demand 1, of the room: a refused line's reply is `?` CR LF at its place, and no other byte of the room is its. Assumes nothing.
 use mathlib.Core.Path.{◌≡◌, sym, ap, ◌∙◌}
 use mathlib.Core.List.{List, ◌∷◌, ◌++◌}
-use Prim.Native.Nat.{ℕ, ◌+◌}
+use Prim.Native.Nat.{ℕ}
 use lib.ListN.{take, drop, take-append-drop}
 use Rattle.reply.specs.Reply.{refused_text}
 use Rattle.state.specs.declared.Unit.{Unit as TheUnit}

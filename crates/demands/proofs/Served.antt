@@ -15,7 +15,7 @@ use Rattle.state.proofs.SoundLaws.{sound_yes}
 use Rattle.serving.specs.Machine.{machine, taken_of}
 use Rattle.wire.specs.Wire.{block_of}
 use Rattle.wire.specs.WireLaws.{block_each, block_fits}
-use Rattle.demands.specs.Host.{next, after, replies, bytes, Call, Took, Sampled, Restarted, Allowed, handed, Calls, last, events, all_events, Right, Served, AllServed}
+use Rattle.demands.specs.Host.{after, replies, bytes, Call, Took, Sampled, Restarted, Allowed, handed, Calls, last, events, all_events, Right, Served, AllServed}
 use Rattle.demands.proofs.Reached.{after_append, after_bytes, replies_bytes, sound_after}
 
 module _ (u : TheUnit) (h : sound_of u ≡ true) where

@@ -1,5 +1,5 @@
 -- What the `else` of a `let .. else` on a parameter knows, as a fact of the parameter's kind. One law for each kind, for every command. Assumes nothing.
-use Rattle.std.proofs.Common.{◌≡◌, refl, ℕ, Bool, false}
+use Rattle.std.proofs.Common.{◌≡◌, refl, ℕ, false}
 use Rattle.line.specs.Param.{is_nothing, is_query, is_number, is_text}
 use Rattle.line.specs.declared.shape.Number.{Number}
 use Rattle.line.specs.declared.shape.Param.{Param}

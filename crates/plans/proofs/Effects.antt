@@ -1,5 +1,5 @@
 -- Each line has one of the five effects of specs/Effects; and what a refusal does. Assumes nothing.
-use Rattle.std.specs.Prelude.{◌≡◌, refl, Bool, true, false, ◌||◌, List, ℕ, min, ◌+◌, ◌<◌, eqb, ltb, take}
+use Rattle.std.specs.Prelude.{◌≡◌, refl, Bool, true, false, ◌||◌, List, ℕ, eqb, ltb, take}
 use Rattle.std.proofs.Common.{sym, arith, eqb-true, ne_eqb, ltb-true}
 use Rattle.std.proofs.lemmas.Bool.{eqb-false}
 use Rattle.cases.specs.Pick.{pick}
@@ -11,7 +11,6 @@ use Rattle.line.specs.declared.shape.Param.{Param}
 use Rattle.line.specs.declared.shape.Param.TheVariants as param
 use Rattle.line.specs.declared.shape.Shape.{Shape}
 use Rattle.line.specs.Shape.{shape_of}
-use Rattle.state.specs.declared.Settings.{Settings}
 use Rattle.state.specs.declared.Unit.{Unit as TheUnit}
 use Rattle.state.specs.Settings.{factory_of}
 use Rattle.state.specs.Changes.{ceiling, saved_of, recalled_of, traded_of}

@@ -1,3 +1,4 @@
 pub mod Effects
 pub mod Keeps
 pub mod Bands
+pub mod ReasonLaws

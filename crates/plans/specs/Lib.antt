@@ -11,5 +11,4 @@ pub mod LockLaws
 pub mod Refusals
 pub mod Forms
 pub mod Answers
-pub mod ReasonLaws
 pub mod Effects

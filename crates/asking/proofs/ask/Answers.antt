@@ -1,4 +1,3 @@
-use Rattle.std.proofs.Common.{rules}
 use Rattle.plans.specs.Obey.{judge}
 use Rattle.asking.proofs.ask.Goals as goal
 

@@ -1,4 +1,3 @@
-use Rattle.std.proofs.Common.{rules}
 use Rattle.asking.specs.Said.{msv_four, msv_two, msv_decimal, msv_status}
 use Rattle.asking.proofs.msv_reply.Goals as goal
 

@@ -1,4 +1,3 @@
-use Rattle.std.proofs.Common.{rules}
 use Rattle.cases.specs.PickLaws.{yes_via, no_via}
 use Rattle.plans.specs.Obey.{judge}
 use Rattle.asking.proofs.on_msv.Goals as goal

@@ -1,4 +1,3 @@
-use Rattle.std.proofs.Common.{rules}
 use Rattle.plans.specs.Queries.{status_of}
 use Rattle.asking.proofs.status_of.Goals as goal
 

@@ -1,6 +1,5 @@
-use Rattle.std.proofs.Common.{true, ◌≡◌, ⊎_elim, arith, rules}
+use Rattle.std.proofs.Common.{true, ◌≡◌}
 use Rattle.state.specs.Sound.{sound_of}
-use Rattle.state.proofs.SoundLaws.{new_sound}
 use Rattle.bench.proofs.main.Given as goal
 
 abbrev pub invariant-loop-turns : goal.invariant-loop-turns

@@ -1,5 +1,5 @@
-use Rattle.std.proofs.Common.{◌-◌, arith, rules}
-use Rattle.session.specs.WalkLaws.{Walked, walk_start, walk_pass, walk_skip}
+use Rattle.std.proofs.Common.{arith, rules}
+use Rattle.session.specs.WalkLaws.{walk_start, walk_pass, walk_skip}
 use Rattle.bench.proofs.scan.Goals as goal
 
 pub loop-i-init : goal.loop-i-init

@@ -1,5 +1,5 @@
-use Rattle.std.proofs.Common.{◌-◌, arith, rules}
-use Rattle.session.specs.WalkLaws.{Walked, walk_start, walk_pass, walk_skip}
+use Rattle.std.proofs.Common.{◌-◌}
+use Rattle.session.specs.WalkLaws.{Walked}
 use Rattle.bench.proofs.scan.Given as goal
 
 abbrev pub invariant-loop-i : goal.invariant-loop-i

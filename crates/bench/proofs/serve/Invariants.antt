@@ -1,7 +1,5 @@
-use Rattle.std.proofs.Common.{true, ◌≡◌, ◌+◌, ◌-◌, ◌≤◌, ◌<◌, arith, length, length-set, rules}
+use Rattle.std.proofs.Common.{true, ◌≡◌, ◌+◌, ◌-◌, ◌≤◌, ◌<◌, length}
 use Rattle.state.specs.Sound.{sound_of}
-use Rattle.state.proofs.SoundLaws.{sound_yes}
-use Rattle.serving.proofs.KeepLaws.{run_sound}
 use Rattle.bench.proofs.serve.Given as goal
 
 abbrev pub invariant-loop-from : goal.invariant-loop-from

@@ -1,4 +1,4 @@
-use Rattle.std.proofs.Common.{◌≡◌, sym, true, false, ⊎_elim, ℕ, min, List, arith, rules, eq-eqb, ne_eqb, ltb-true, ltb-false, ltb, length, take, length-take-le, take_all}
+use Rattle.std.proofs.Common.{◌≡◌, true, false, ⊎_elim, ℕ, min, List, arith, rules, eq-eqb, ne_eqb, ltb-true, ltb-false, ltb, length, take, take_all}
 use Rattle.cases.specs.PickLaws.{bool_cases}
 use Rattle.state.specs.Parts.{unchanged_is}
 use Rattle.plans.specs.Obey.{judge, obey_of}
@@ -15,7 +15,6 @@ part_take n kept e = ⊎_elim short long (bool_cases (ltb n 40))
     long t =
         let h : min n 40 ≡ 40 = omega (arith, ltb-false n 40 t) in
         rw (h, take_all 40 kept (omega arith), take_all n kept (omega (arith, ltb-false n 40 t)))
-
 
 pub returns-then-n-eq0 : goal.returns-then-n-eq0
 unfolding obey_of

@@ -1,4 +1,3 @@
-use Rattle.std.proofs.Common.{rules}
 use Rattle.plans.specs.Obey.{judge}
 use Rattle.commands.proofs.read.Goals as goal
 

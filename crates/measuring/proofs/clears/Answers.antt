@@ -1,4 +1,4 @@
-use Rattle.std.proofs.Common.{rules, arith}
+use Rattle.std.proofs.Common.{arith}
 use Rattle.weight.proofs.ZeroLaws.{later_share_to}
 use Rattle.weighing.specs.RangeLaws.{scale_now}
 use Rattle.measuring.proofs.clears.Goals as goal

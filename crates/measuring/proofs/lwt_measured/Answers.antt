@@ -1,4 +1,3 @@
-use Rattle.std.proofs.Common.{rules}
 use Rattle.line.proofs.Wanted.{not_nothing}
 use Rattle.line.specs.declared.shape.Param.TheVariants as param
 use Rattle.state.specs.RangedLaws.{point_of}

@@ -1,6 +1,4 @@
-use Rattle.std.proofs.Common.{rules}
 use Rattle.line.specs.declared.shape.Param.TheVariants as param
-use Rattle.line.proofs.Wanted.{not_number}
 use Rattle.plans.specs.Plans.{ldw_plan}
 use Rattle.plans.specs.ObeyLaws.{settled_as_lem}
 use Rattle.measuring.proofs.on_ldw.Goals as goal

@@ -1,5 +1,3 @@
-use Rattle.std.proofs.Common.{rules}
-use Rattle.line.proofs.Wanted.{not_number}
 use Rattle.state.specs.RangedLaws.{point_of}
 use Rattle.measuring.specs.CurveLaws.{lwt_typed}
 use Rattle.measuring.proofs.on_lwt.Goals as goal

@@ -1,4 +1,3 @@
-use Rattle.std.proofs.Common.{rules}
 use Rattle.reply.specs.PushLaws.{onto, thousands}
 use Rattle.reply.specs.Reply.{places_of, blank_text}
 use Rattle.reply.proofs.blank_6.Goals as goal

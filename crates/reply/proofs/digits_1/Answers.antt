@@ -1,4 +1,3 @@
-use Rattle.std.proofs.Common.{rules}
 use Rattle.reply.specs.PushLaws.{onto}
 use Rattle.reply.specs.Reply.{places_of, digits_text}
 use Rattle.reply.proofs.digits_1.Goals as goal

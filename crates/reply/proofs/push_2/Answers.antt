@@ -1,4 +1,4 @@
-use Rattle.std.proofs.Common.{rules, arith, refl}
+use Rattle.std.proofs.Common.{arith, refl}
 use Rattle.reply.specs.PushLaws.{full, there}
 use Rattle.reply.proofs.push_2.Goals as goal
 

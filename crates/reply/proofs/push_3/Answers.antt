@@ -1,4 +1,4 @@
-use Rattle.std.proofs.Common.{rules, arith, add_assoc}
+use Rattle.std.proofs.Common.{arith, add_assoc}
 use Rattle.reply.specs.PushLaws.{full, there}
 use Rattle.reply.proofs.push_3.Goals as goal
 

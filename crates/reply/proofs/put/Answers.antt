@@ -1,5 +1,5 @@
-use Rattle.std.proofs.Common.{◌-◌, arith, length, ◌≡◌, rules}
-use Rattle.reply.specs.PutLaws.{Copied, copied_start, copied_on, put_none, put_all}
+use Rattle.std.proofs.Common.{arith, length, ◌≡◌, rules}
+use Rattle.reply.specs.PutLaws.{copied_start, copied_on, put_none, put_all}
 use Rattle.reply.proofs.put.Goals as goal
 
 pub count-n-requires : goal.count-n-requires

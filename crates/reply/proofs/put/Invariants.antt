@@ -1,5 +1,5 @@
-use Rattle.std.proofs.Common.{◌-◌, arith, length, ◌≡◌, rules}
-use Rattle.reply.specs.PutLaws.{Copied, copied_start, copied_on, put_none, put_all}
+use Rattle.std.proofs.Common.{◌-◌}
+use Rattle.reply.specs.PutLaws.{Copied}
 use Rattle.reply.proofs.put.Given as goal
 
 abbrev pub invariant-loop-i : goal.invariant-loop-i

@@ -1,4 +1,4 @@
-use Rattle.std.proofs.Common.{rules, arith, add_assoc}
+use Rattle.std.proofs.Common.{arith, add_assoc}
 use Rattle.std.proofs.Math.Nat.{div-div-eq-div-mul}
 use Rattle.std.proofs.Math.Nat.{div-div-eq-div-mul}
 use Rattle.reply.specs.Reply.{places_of}

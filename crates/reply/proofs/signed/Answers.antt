@@ -1,4 +1,3 @@
-use Rattle.std.proofs.Common.{rules}
 use Rattle.reply.specs.PushLaws.{onto}
 use Rattle.reply.specs.Reply.{places_of, signed_text}
 use Rattle.reply.proofs.signed.Goals as goal

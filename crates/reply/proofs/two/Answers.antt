@@ -1,4 +1,3 @@
-use Rattle.std.proofs.Common.{rules}
 use Rattle.reply.specs.Reply.{places_of}
 use Rattle.reply.proofs.two.Goals as goal
 

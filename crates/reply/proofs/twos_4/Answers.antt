@@ -1,4 +1,4 @@
-use Rattle.std.proofs.Common.{rules, arith, sym}
+use Rattle.std.proofs.Common.{arith, sym}
 use Rattle.reply.specs.ApartLaws.{below, not_below}
 use Rattle.reply.proofs.twos_4.Goals as goal
 

@@ -1,8 +1,7 @@
-use Rattle.std.proofs.Common.{⊎_elim, ◌-◌, arith, length, rules}
+use Rattle.std.proofs.Common.{arith, rules}
 use Rattle.std.proofs.lemmas.Bool.{not-false}
 use Rattle.std.proofs.lemmas.Bool.{not-true}
-use Rattle.state.specs.Changes.{lined}
-use Rattle.serving.proofs.TurnLaws.{Serving, serving_start, turn_kept, turn_long, turn_same, turn_adds, turn_ended, leave_full, leave_end}
+use Rattle.serving.proofs.TurnLaws.{serving_start, turn_kept, turn_long, turn_same, turn_adds, turn_ended, leave_full, leave_end}
 use Rattle.serving.proofs.serve.Goals as goal
 use Rattle.serving.proofs.serve.Goals.{else-loop-i-test, then-loop-i-test+then-m-at-lt-ROOM}
 
@@ -78,6 +77,6 @@ handed-requires c = search rules
 pub returns : goal.returns
 returns c =
     rw c.handed.ensures (elim c.loop-i-test.branch [
-      else-loop-i-test w ↦ (let d = leave_end _ _ _ _ _ _ _ c.loop-i.invariant w.loop-i-test.false in record { taken = d.0; room = d.1 })
-    | then-loop-i-test+then-m-at-lt-ROOM w ↦ (let d = leave_full _ _ _ _ _ _ _ c.loop-i.invariant w.if-m-at-lt-ROOM.true in record { taken = d.0; room = d.1 })
+      | else-loop-i-test w ↦ (let d = leave_end _ _ _ _ _ _ _ c.loop-i.invariant w.loop-i-test.false in record { taken = d.0; room = d.1 })
+      | then-loop-i-test+then-m-at-lt-ROOM w ↦ (let d = leave_full _ _ _ _ _ _ _ c.loop-i.invariant w.if-m-at-lt-ROOM.true in record { taken = d.0; room = d.1 })
     ])

@@ -1,4 +1,4 @@
-use Rattle.std.proofs.Common.{rules, sym, ◌∙◌, arith}
+use Rattle.std.proofs.Common.{sym, ◌∙◌, arith}
 use Rattle.session.proofs.SampleLaws.{digit_low}
 use Rattle.session.specs.Reader.{digit_of}
 use Rattle.session.proofs.digit.Goals as goal

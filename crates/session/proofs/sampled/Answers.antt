@@ -1,6 +1,6 @@
-use Rattle.std.proofs.Common.{rules, eq-eqb, ne_eqb, ap, ◌∙◌, arith, w32}
+use Rattle.std.proofs.Common.{eq-eqb, ne_eqb, ap, ◌∙◌, arith, w32}
 use Rattle.std.proofs.lemmas.Int.{to_z_pos}
-use Rattle.whole.specs.Bits.{nat, neg_fits, neg_is, signed_fits, signed_is}
+use Rattle.whole.specs.Bits.{nat, neg_is, signed_is}
 use Rattle.session.specs.declared.Event.TheVariants as event
 use Rattle.session.proofs.SampleLaws.{minus_none, minus_some, plus_none, plus_some, minus_fits}
 use Rattle.session.proofs.sampled.Goals as goal

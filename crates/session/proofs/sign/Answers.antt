@@ -1,4 +1,3 @@
-use Rattle.std.proofs.Common.{rules}
 use Rattle.cases.specs.PickLaws.{cases}
 use Rattle.session.specs.Reader.{sign_of}
 use Rattle.session.proofs.sign.Goals as goal

@@ -1,4 +1,4 @@
-use Rattle.std.proofs.Common.{rules, arith}
+use Rattle.std.proofs.Common.{arith}
 use Rattle.weighing.specs.RangeLaws.{v_now_lem, scale_now}
 use Rattle.weighing.specs.Samples.{first_now}
 use Rattle.weighing.proofs.first_now.Goals as goal

@@ -1,4 +1,4 @@
-use Rattle.std.proofs.Common.{rules, arith}
+use Rattle.std.proofs.Common.{arith}
 use Rattle.weighing.specs.RangeLaws.{v_now_lem, zeros_now_lem}
 use Rattle.weighing.proofs.g_now.Goals as goal
 

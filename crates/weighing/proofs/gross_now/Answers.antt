@@ -1,4 +1,4 @@
-use Rattle.std.proofs.Common.{rules, arith}
+use Rattle.std.proofs.Common.{arith}
 use Rattle.weighing.specs.RangeLaws.{g_now_lem, scale_now}
 use Rattle.weighing.specs.Reading.{gross_now}
 use Rattle.weighing.proofs.gross_now.Goals as goal

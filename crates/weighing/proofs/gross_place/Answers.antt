@@ -1,4 +1,4 @@
-use Rattle.std.proofs.Common.{rules, arith}
+use Rattle.std.proofs.Common.{arith}
 use Rattle.weighing.specs.RangeLaws.{gross_now_lem, scale_now}
 use Rattle.weighing.proofs.gross_place.Goals as goal
 

@@ -1,4 +1,3 @@
-use Rattle.std.proofs.Common.{rules}
 use Rattle.whole.specs.Bits.{par}
 use Rattle.weighing.specs.RangeLaws.{seeing_ranged}
 use Rattle.weighing.proofs.take_sample.Goals as goal

@@ -1,4 +1,4 @@
-use Rattle.std.proofs.Common.{rules, arith}
+use Rattle.std.proofs.Common.{arith}
 use Rattle.weighing.specs.RangeLaws.{g_now_lem, tare_now, scale_now, zeros_now_lem}
 use Rattle.weighing.specs.Samples.{tracked_now}
 use Rattle.weighing.proofs.tracked_now.Goals as goal

@@ -1,4 +1,3 @@
-use Rattle.std.proofs.Common.{rules}
 use Rattle.weighing.specs.RangeLaws.{scale_now, cell_now}
 use Rattle.weighing.specs.Reading.{v_now}
 use Rattle.weighing.proofs.v_now.Goals as goal

@@ -1,4 +1,4 @@
-use Rattle.std.proofs.Common.{arith, rules}
+use Rattle.std.proofs.Common.{arith}
 use Rattle.weight.specs.Ranges.{less_to}
 use Rattle.weight.proofs.above_zeros.Goals as goal
 

@@ -1,8 +1,7 @@
-use Rattle.std.proofs.Common.{◌≡◌, ap, ◌∙◌, arith, ℤ, pos, ◌-ℤ◌, ◌*ℤ◌, w64, to_z, of_z}
+use Rattle.std.proofs.Common.{ap, ◌∙◌, arith, pos, ◌*ℤ◌}
 use Rattle.whole.specs.Round.{round_div}
-use Rattle.whole.specs.Bits.{ran, sub_ok, sub_eq}
+use Rattle.whole.specs.Bits.{ran, sub_eq}
 use Rattle.weight.specs.Weight.{as_cell, corrected}
-use Rattle.weight.specs.Ranges.{above_product}
 use Rattle.weight.proofs.corrected_sample.Goals as goal
 
 pub returns : goal.returns

@@ -1,4 +1,4 @@
-use Rattle.std.proofs.Common.{◌≡◌, ap, ◌∙◌, ◌*◌, ◌≤◌, arith, mul-le-mul, rules, ℤ, pos, nat_abs, ◌*ℤ◌}
+use Rattle.std.proofs.Common.{◌≡◌, ap, ◌∙◌, ◌*◌, ◌≤◌, arith, mul-le-mul, pos, nat_abs, ◌*ℤ◌}
 use Rattle.whole.specs.Round.{round_div}
 use Rattle.whole.specs.Sizes.{times_one}
 use Rattle.whole.proofs.RoundLaws.{round_div_bound}
@@ -18,7 +18,6 @@ module _ (c : After-round_mul_div-n) where
   product-to =
       let e = c in
       mul-le-mul {n₂ = 1099511627776} (rw quotient (round_div_bound e.args.g.0 _ 1099511627776 (omega arith) (omega arith))) e.requires.1.1
-
 
 pub overflow_mul-result : goal.overflow_mul-result
 overflow_mul-result c = mul_fits (ran c.round_mul_div-n.result c.round_mul_div-n.type_inv) (nat c.args.rsn (omega arith)) (omega (arith, product-to c))

@@ -1,4 +1,4 @@
-use Rattle.std.proofs.Common.{◌≡◌, ap, ◌∙◌, ◌*◌, ◌<◌, ◌≤◌, ℕ, arith, ℤ, pos, nat_abs, ◌-ℤ◌, ◌*ℤ◌, w64, to_z, of_z}
+use Rattle.std.proofs.Common.{◌≡◌, ap, ◌∙◌, ◌*◌, ◌≤◌, arith, pos, nat_abs, ◌*ℤ◌, w64, to_z, of_z}
 use Rattle.whole.specs.Round.{round_div}
 use Rattle.whole.specs.Bits.{small, ran, sub_eq}
 use Rattle.weight.specs.declared.Cell.{Cell}

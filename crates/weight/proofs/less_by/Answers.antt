@@ -1,5 +1,5 @@
 use Rattle.std.proofs.Common.{ap, arith}
-use Rattle.whole.specs.Bits.{sub_ok, sub_eq}
+use Rattle.whole.specs.Bits.{sub_eq}
 use Rattle.weight.specs.Weight.{as_tenths, less}
 use Rattle.weight.proofs.less_by.Goals as goal
 

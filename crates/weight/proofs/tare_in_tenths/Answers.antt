@@ -1,5 +1,5 @@
 use Rattle.std.proofs.Common.{ap, arith}
-use Rattle.whole.specs.Bits.{mul_ok, mul_eq}
+use Rattle.whole.specs.Bits.{mul_eq}
 use Rattle.weight.specs.Weight.{as_tenths, in_tenths}
 use Rattle.weight.proofs.tare_in_tenths.Goals as goal
 

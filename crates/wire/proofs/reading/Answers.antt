@@ -1,5 +1,4 @@
-use Rattle.std.proofs.Common.{rules}
-use Rattle.cases.specs.PickLaws.{cases, named}
+use Rattle.cases.specs.PickLaws.{named}
 use Rattle.state.specs.RangedLaws.{ranged_yes}
 use Rattle.wire.proofs.reading.Goals as goal
 

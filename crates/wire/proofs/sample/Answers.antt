@@ -1,6 +1,4 @@
-use Rattle.std.proofs.Common.{rules}
-use Rattle.cases.specs.PickLaws.{cases, named, yes_via}
-use Rattle.whole.specs.Bits.{par}
+use Rattle.cases.specs.PickLaws.{named}
 use Rattle.state.specs.RangedLaws.{ranged_yes}
 use Rattle.wire.proofs.sample.Goals as goal
 

@@ -1,5 +1,4 @@
-use Rattle.std.proofs.Common.{refl, rules}
-use Rattle.cases.specs.PickLaws.{named, yes_via, no_via}
+use Rattle.cases.specs.PickLaws.{named}
 use Rattle.state.specs.RangedLaws.{ranged_yes}
 use Rattle.wire.proofs.take.Goals as goal
 

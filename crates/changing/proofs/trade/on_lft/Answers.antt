@@ -1,4 +1,4 @@
-use Rattle.std.proofs.Common.{refl, rules}
+use Rattle.std.proofs.Common.{refl}
 use Rattle.line.proofs.Wanted.{not_number}
 use Rattle.line.specs.declared.shape.Param.TheVariants as param
 use Rattle.state.specs.Parts.{unchanged_is, changed_pick}

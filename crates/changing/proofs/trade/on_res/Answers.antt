@@ -1,4 +1,4 @@
-use Rattle.std.proofs.Common.{refl, rules}
+use Rattle.std.proofs.Common.{refl}
 use Rattle.line.proofs.Wanted.{not_nothing}
 use Rattle.line.specs.declared.shape.Param.TheVariants as param
 use Rattle.plans.specs.Plans.{res_plan}

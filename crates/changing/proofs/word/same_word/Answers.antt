@@ -1,4 +1,4 @@
-use Rattle.std.proofs.Common.{rules, refl}
+use Rattle.std.proofs.Common.{refl}
 use Rattle.plans.specs.Plans.{same_word}
 use Rattle.changing.proofs.word.same_word.Goals as goal
 

@@ -1,4 +1,3 @@
-use Rattle.std.proofs.Common.{rules}
 use Rattle.plans.specs.Plans.{word_of}
 use Rattle.changing.proofs.word.word_of.Goals as goal
 

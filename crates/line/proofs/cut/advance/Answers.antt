@@ -20,7 +20,6 @@ module _ (b : ℕ) (h : 0x22 < b) (n : b ≡ 0x3b → ⊥) where
   unfolding moved_of
   counts p = simp (goes_on p.quoted, stays p.quoted)
 
-
 pub returns-then-p-lt-MOST : goal.returns-then-p-lt-MOST
 unfolding moved_of
 returns-then-p-lt-MOST c = c.stored.ensures ∙ counts _ (search rules) (search rules) _

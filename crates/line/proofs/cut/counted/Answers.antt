@@ -1,4 +1,4 @@
-use Rattle.std.proofs.Common.{rules, le-ltb}
+use Rattle.std.proofs.Common.{le-ltb}
 use Rattle.line.specs.Line.{counted_of}
 use Rattle.line.proofs.cut.counted.Goals as goal
 

@@ -1,7 +1,7 @@
-use Rattle.std.proofs.Common.{◌≡◌, refl, sym, ◌-◌, ◌≤◌, arith, drop}
+use Rattle.std.proofs.Common.{refl, sym, arith}
 use Rattle.cases.specs.PickLaws.{cases}
 use Rattle.line.specs.ReadLaws.{ands, all_no, all_on, all_end}
-use Rattle.line.specs.Shape.{all_of, is_plain}
+use Rattle.line.specs.Shape.{is_plain}
 use Rattle.line.proofs.shape.all_plain.Goals as goal
 
 -- what is left of the slice answers for the whole of it

@@ -1,6 +1,4 @@
-use Rattle.std.proofs.Common.{◌≡◌, refl, sym, ◌-◌, ◌≤◌, arith, drop}
-use Rattle.cases.specs.PickLaws.{cases}
-use Rattle.line.specs.ReadLaws.{ands, all_no, all_on, all_end}
+use Rattle.std.proofs.Common.{◌≡◌, ◌-◌, ◌≤◌, drop}
 use Rattle.line.specs.Shape.{all_of, is_plain}
 use Rattle.line.proofs.shape.all_plain.Given as goal
 

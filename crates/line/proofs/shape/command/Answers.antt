@@ -1,4 +1,3 @@
-use Rattle.std.proofs.Common.{rules}
 use Rattle.line.specs.ReadLaws.{command_bad, command_unknown, command_known}
 use Rattle.line.proofs.shape.command.Goals as goal
 

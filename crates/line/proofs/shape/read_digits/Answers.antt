@@ -1,7 +1,7 @@
-use Rattle.std.proofs.Common.{◌≡◌, refl, ◌-◌, ◌^◌, ◌≤◌, ◌<◌, arith, drop}
+use Rattle.std.proofs.Common.{refl, arith}
 use Rattle.cases.specs.PickLaws.{cases}
 use Rattle.line.specs.ReadLaws.{ands, all_no, all_on, all_end, value_on, value_end, digit_room, room}
-use Rattle.line.specs.Shape.{all_of, is_digit, value_from, digits_of}
+use Rattle.line.specs.Shape.{is_digit, digits_of}
 use Rattle.line.proofs.shape.read_digits.Goals as goal
 
 -- what is left of the slice answers for the whole of it

@@ -1,7 +1,5 @@
-use Rattle.std.proofs.Common.{◌≡◌, refl, ◌-◌, ◌^◌, ◌≤◌, ◌<◌, arith, drop}
-use Rattle.cases.specs.PickLaws.{cases}
-use Rattle.line.specs.ReadLaws.{ands, all_no, all_on, all_end, value_on, value_end, digit_room, room}
-use Rattle.line.specs.Shape.{all_of, is_digit, value_from, digits_of}
+use Rattle.std.proofs.Common.{◌≡◌, ◌-◌, ◌^◌, ◌≤◌, ◌<◌, drop}
+use Rattle.line.specs.Shape.{all_of, is_digit, value_from}
 use Rattle.line.proofs.shape.read_digits.Given as goal
 
 abbrev pub invariant-loop-i : goal.invariant-loop-i

@@ -1,4 +1,4 @@
-use Rattle.std.proofs.Common.{rules, w64, to_z-of_z}
+use Rattle.std.proofs.Common.{to_z-of_z}
 use Rattle.line.specs.Shape.{number_of}
 use Rattle.line.proofs.shape.read_number.Goals as goal
 

@@ -1,4 +1,3 @@
-use Rattle.std.proofs.Common.{rules}
 use Rattle.cases.specs.PickLaws.{cases}
 use Rattle.line.specs.ReadLaws.{text_part, number_part}
 use Rattle.line.specs.Shape.{param_of}

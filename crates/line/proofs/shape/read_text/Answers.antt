@@ -1,4 +1,3 @@
-use Rattle.std.proofs.Common.{rules, sym, arith, length-take-le}
 use Rattle.cases.specs.PickLaws.{cases, named}
 use Rattle.line.specs.ReadLaws.{ands}
 use Rattle.line.specs.Shape.{text_of}

@@ -1,4 +1,4 @@
-use Rattle.std.proofs.Common.{rules, arith, w64, to_z-of_z}
+use Rattle.std.proofs.Common.{arith, w64, to_z-of_z}
 use Rattle.std.proofs.lemmas.Int.{to_z_pos}
 use Rattle.line.specs.ReadLaws.{zero_sub, neg_fits}
 use Rattle.line.specs.Shape.{signed_of}

@@ -1,4 +1,3 @@
-use Rattle.std.proofs.Common.{rules}
 use Rattle.state.specs.Parts.{changed_by}
 use Rattle.state.proofs.changes.save.Goals as goal
 

@@ -1,4 +1,3 @@
-use Rattle.std.proofs.Common.{rules}
 use Rattle.state.specs.Parts.{changed_by}
 use Rattle.state.proofs.changes.set_free.Goals as goal
 

@@ -1,4 +1,4 @@
-use Rattle.std.proofs.Common.{refl, rules}
+use Rattle.std.proofs.Common.{refl}
 use Rattle.state.specs.Parts.{changed_by}
 use Rattle.state.proofs.changes.start_again.Goals as goal
 

@@ -1,4 +1,3 @@
-use Rattle.std.proofs.Common.{rules}
 use Rattle.state.specs.Ranged.{free_in}
 use Rattle.state.proofs.ranged.free_in.Goals as goal
 

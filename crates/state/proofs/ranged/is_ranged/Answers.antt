@@ -1,4 +1,3 @@
-use Rattle.std.proofs.Common.{rules}
 use Rattle.cases.specs.PickLaws.{yes_via, no_via}
 use Rattle.state.specs.Ranged.{ranged_of}
 use Rattle.state.proofs.ranged.is_ranged.Goals as goal

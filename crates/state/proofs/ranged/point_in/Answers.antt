@@ -1,4 +1,3 @@
-use Rattle.std.proofs.Common.{rules}
 use Rattle.state.specs.Ranged.{point_in}
 use Rattle.state.proofs.ranged.point_in.Goals as goal
 

@@ -1,4 +1,3 @@
-use Rattle.std.proofs.Common.{rules}
 use Rattle.state.specs.Ranged.{sealed_in}
 use Rattle.state.proofs.ranged.sealed_in.Goals as goal
 

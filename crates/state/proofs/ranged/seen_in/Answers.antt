@@ -1,4 +1,3 @@
-use Rattle.std.proofs.Common.{rules}
 use Rattle.state.specs.Ranged.{seen_in}
 use Rattle.state.proofs.ranged.seen_in.Goals as goal
 

@@ -1,4 +1,3 @@
-use Rattle.std.proofs.Common.{rules}
 use Rattle.state.specs.Ranged.{settings_in}
 use Rattle.state.proofs.ranged.settings_in.Goals as goal
 

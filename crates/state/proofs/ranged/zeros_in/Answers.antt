@@ -1,4 +1,3 @@
-use Rattle.std.proofs.Common.{rules}
 use Rattle.state.specs.Ranged.{zeros_in}
 use Rattle.state.proofs.ranged.zeros_in.Goals as goal
 

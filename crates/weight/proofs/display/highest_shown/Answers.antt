@@ -1,4 +1,4 @@
-use Rattle.std.proofs.Common.{sym, rules}
+use Rattle.std.proofs.Common.{sym}
 use Rattle.weight.specs.Display.{highest}
 use Rattle.weight.specs.DisplayLaws.{mode_0, mode_1, mode_3}
 use Rattle.weight.proofs.display.highest_shown.Goals as goal

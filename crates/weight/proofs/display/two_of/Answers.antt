@@ -1,4 +1,4 @@
-use Rattle.std.proofs.Common.{arith, rules}
+use Rattle.std.proofs.Common.{arith}
 use Rattle.whole.specs.Bits.{same_eq}
 use Rattle.weight.specs.Display.{two_of}
 use Rattle.weight.proofs.display.two_of.Goals as goal

@@ -1,4 +1,3 @@
-use Rattle.std.proofs.Common.{rules}
 use Rattle.weight.specs.Sets.{scale_in}
 use Rattle.weight.proofs.sets.scale_in.Goals as goal
 

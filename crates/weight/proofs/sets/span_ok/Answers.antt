@@ -1,5 +1,5 @@
 use Rattle.std.proofs.Common.{arith}
-use Rattle.whole.specs.Bits.{small, lit, sub_ok, sub_is, le_is}
+use Rattle.whole.specs.Bits.{small, lit, sub_is, le_is}
 use Rattle.weight.specs.Sets.{spans}
 use Rattle.weight.proofs.sets.span_ok.Goals as goal
 

@@ -1,6 +1,4 @@
-use Rattle.std.proofs.Common.{arith, rules}
 use Rattle.weight.specs.Zero.{first_zero}
-use Rattle.weight.proofs.ZeroLaws.{first_share_to}
 use Rattle.weight.proofs.zero.first_zero.Goals as goal
 
 pub returns : goal.returns

@@ -1,4 +1,4 @@
-use Rattle.std.proofs.Common.{ap, ◌∙◌, ◌&&◌, ◌*◌, arith, rules, ltb, nat_abs}
+use Rattle.std.proofs.Common.{ap, ◌∙◌, ◌&&◌, ◌*◌, arith, ltb, nat_abs}
 use Rattle.whole.specs.Bits.{same_eq}
 use Rattle.weight.specs.Zero.{tracks}
 use Rattle.weight.proofs.zero.is_tracked.Goals as goal

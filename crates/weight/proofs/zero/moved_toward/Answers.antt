@@ -1,5 +1,5 @@
 use Rattle.std.proofs.Common.{ap, arith}
-use Rattle.whole.specs.Bits.{same_eq, add_lit_ok, add_lit_eq, sub_lit_ok, sub_lit_eq}
+use Rattle.whole.specs.Bits.{same_eq, add_lit_eq, sub_lit_eq}
 use Rattle.weight.specs.Weight.{as_tenths}
 use Rattle.weight.specs.Zero.{moved}
 use Rattle.weight.proofs.zero.moved_toward.Goals as goal

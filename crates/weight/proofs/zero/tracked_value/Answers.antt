@@ -1,4 +1,4 @@
-use Rattle.std.proofs.Common.{arith, rules}
+use Rattle.std.proofs.Common.{arith}
 use Rattle.weight.specs.Ranges.{in_tenths_to}
 use Rattle.weight.proofs.zero.tracked_value.Goals as goal
 

@@ -1,4 +1,4 @@
-use Rattle.std.proofs.Common.{arith, rules}
+use Rattle.std.proofs.Common.{arith}
 use Rattle.weight.specs.Zero.{tracked}
 use Rattle.weight.proofs.ZeroLaws.{moved_to}
 use Rattle.weight.proofs.zero.tracked_zero.Goals as goal

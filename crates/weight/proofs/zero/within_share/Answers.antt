@@ -1,4 +1,4 @@
-use Rattle.std.proofs.Common.{◌≡◌, ap, ◌∙◌, ◌*◌, ◌≤◌, mul-le-mul, arith, rules, leb, nat_abs}
+use Rattle.std.proofs.Common.{◌≡◌, ap, ◌∙◌, ◌*◌, arith, leb, nat_abs}
 use Rattle.whole.specs.Bits.{small}
 use Rattle.weight.specs.Zero.{within_share}
 use Rattle.weight.proofs.zero.within_share.Goals as goal
@@ -6,7 +6,6 @@ use Rattle.weight.proofs.zero.within_share.Goals.{After-size-n}
 
 size_is : (c : After-size-n) → c.size-n.result ≡ nat_abs c.args.z.0
 size_is c = c.size-n.ensures ∙ ap nat_abs (small c.args.z.0 (omega arith)).value
-
 
 pub returns : goal.returns
 unfolding within_share
