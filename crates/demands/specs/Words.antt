@@ -65,7 +65,7 @@ pub data Displayed (u : TheUnit) : Reading → Type 0 where
       (u.used.free.tas ≡ 0 → value_now u ≡ net_now u) → (u.used.free.tas ≡ 1 → value_now u ≡ gross_now u) →
       Displayed u (reading.Weight (gross_now u) (net_now u) (value_now u) (steady_of u.seen))
 
--- the weight that a reading displays, as MSV? would give it: none where there is no sample, else one; inDecimal, inFour and inTwo of weight/specs/Display have its values at each COF
+-- the weight that a reading displays, as MSV? would give it: none where there is no sample, else one; `in_decimal`, `in_four` and `in_two` of weight/specs/Display have its values at each COF
 abbrev pub displayed : Reading → List Shown
 displayed reading.Nothing = []
 displayed (reading.Over s) = shown.Over ∷ []

@@ -1,9 +1,9 @@
 -- A signed local holds bits n, and the number that the machine reads from them is `to_z w n`. `Reads w n z` says that this number is z.
--- Each law takes what the operands read as and a bound on their sizes, and gives that the operation is defined (`-fits`, which answers the
--- operation's need) and what its result reads as (`-is`). The bound is a fact of ℕ, which omega proves. Assumes nothing.
---     par c.fits.x      a parameter x            lit       a literal
+-- Each law takes what the operands read as and a bound on their sizes, and gives that the operation is defined (`_fits`, which answers the
+-- operation's goal) and what its result reads as (`_is`). The bound is a fact of ℕ, which omega proves. Assumes nothing.
+--     par c.ranges.x    a parameter x            lit       a literal
 --     field (..)            a field of a parameter   nat n h   an unsigned number n that was cast
---     ran c.f.result c.f.ok    what a call of f gave    p .value  at the return
+--     ran c.f.result c.f.type_inv    what a call of f gave    p .value  at the return
 use Rattle.std.specs.Prelude.{◌≡◌, refl, Bool, true, false, not, ℕ, zero, suc, ◌+◌, ◌*◌, ◌^◌, ◌<◌, ◌≤◌, T, ltb, ℤ, pos, negsuc, neg_ℤ, nat_abs, ◌+ℤ◌, ◌-ℤ◌, ◌*ℤ◌, ◌<ℤ◌, ◌≤ℤ◌}
 use Rattle.std.proofs.Common.{sym, ap, subst, ◌∙◌, lt_of_le_of_lt, le-add_right, le-add_left, arith, lt-ltb, ltb→lt, to_z-of_z}
 use Rattle.std.proofs.Math.IntN.{neg_ℤ-neg_ℤ, +ℤ_idl}
@@ -23,7 +23,7 @@ par f = record { value = to_z-of_z f }
 pub nat : (n : ℕ) → n < 2 ^ 63 → Reads w64 n (pos n)
 nat n h = record { value = to_z_pos w64 h }
 
--- what a call gave: `ran c.f.result c.f.ok`
+-- what a call gave: `ran c.f.result c.f.type_inv`
 pub ran : (z : ℤ) → mag z < 2 ^ 63 → Reads w64 (of_z w64 z) z
 ran z h = par (record { sfits = h })
 
@@ -114,7 +114,7 @@ module _ {w : Width} {m : ℕ} {a : ℤ} (p : Reads w m a) where
   signed_is f = record { value = to_z-of_z (signed_fits f) ∙ p.value }
 
 -- ---- with nothing named: rules for omega, which finds the numbers in the goal and proves the bound from what is in reach, at i64.
---     sub-n c = omega (arith, sub-ok)     the need of `x - y`, x and y parameters or fields      returns c = omega (arith, sub-eq)
+--     overflow_sub-n c = omega (arith, sub_ok)     the goal of `x - y`, x and y parameters or fields      returns c = omega (arith, sub_eq)
 module _ (a b : ℤ) where
   left_small : nat_abs a + nat_abs b < 2 ^ 63 → Reads w64 (of_z w64 a) a
   left_small h = small a (lt_of_le_of_lt (le-add_right (nat_abs a) (nat_abs b)) h)
