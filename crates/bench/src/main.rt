@@ -11,9 +11,6 @@ use session::{Event, State};
 use state::Unit;
 use std::io::Read;
 
-// So many bytes are read and written at once.
-const LARGE: usize = 65536;
-
 // After some bytes: the unit, where the line stands, and whether there were any.
 #[derive(Clone, Copy)]
 struct Bench {
@@ -139,24 +136,14 @@ fn serve(rt: &impl Print, b: Bench, buf: &mut [u8], out: &mut [u8]) -> Bench
     left(u, s, n)
 }
 
-// How many bytes were read; a read that fails ends the input.
-fn read(input: &mut impl Read, buf: &mut [u8]) -> usize
-    ensures { result ≤ length buf.old }
-{
-    match input.read(buf) {
-        Ok(n) => n,
-        Err(_) => 0,
-    }
-}
-
 // Reads once. The replies are written before more is read, so that they come at a terminal too.
 fn turn(rt: &impl Print, input: &mut impl Read, b: Bench) -> Bench
     requires { sound_of b.unit ≡ true }
     ensures { sound_of result.unit ≡ true }
 {
-    let mut buf = [0u8; LARGE];
-    let mut out = [0u8; LARGE];
-    let n = read(input, &mut buf);
+    let mut buf = [0u8; pipe::LARGE];
+    let mut out = [0u8; pipe::LARGE];
+    let n = pipe::read(input, &mut buf);
     serve(rt, b, &mut buf[..n], &mut out)
 }
 

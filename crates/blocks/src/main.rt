@@ -9,9 +9,6 @@ use session::{Event, State};
 use state::Unit;
 use std::io::Read;
 
-// So many bytes are read and written at once.
-const LARGE: usize = 65536;
-
 // A block has at most so many bytes, and a room too; a line that asks for more is none.
 const MOST: usize = 1024;
 
@@ -335,24 +332,14 @@ fn serve(rt: &impl Print, b: Blocks, buf: &[u8], out: &mut [u8]) -> Blocks
     left(u, g, s, bytes, k, n)
 }
 
-// How many bytes were read; a read that fails ends the input.
-fn read(input: &mut impl Read, buf: &mut [u8]) -> usize
-    ensures { result ≤ length buf.old }
-{
-    match input.read(buf) {
-        Ok(n) => n,
-        Err(_) => 0,
-    }
-}
-
 // Reads once. What is printed is written before more is read, so that it comes at a terminal too.
 fn turn(rt: &impl Print, input: &mut impl Read, b: Blocks) -> Blocks
     requires { sound_of b.unit ≡ true }
     ensures { sound_of result.unit ≡ true }
 {
-    let mut buf = [0u8; LARGE];
-    let mut out = [0u8; LARGE];
-    let n = read(input, &mut buf);
+    let mut buf = [0u8; pipe::LARGE];
+    let mut out = [0u8; pipe::LARGE];
+    let n = pipe::read(input, &mut buf);
     serve(rt, b, &buf[..n], &mut out)
 }
 

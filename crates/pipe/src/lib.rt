@@ -1,12 +1,28 @@
 // What the programs do alike: bytes that wait to be written, and the lines that are no command's.
 #![tactic(auto)]
 
-ghost use Rattle.std.specs.Prelude.{◌≡◌, true, ◌+◌, ◌-◌, ◌≤◌, length, get_or, set};
+ghost use Rattle.std.specs.Io.KnownBytes.{Consumes};
+ghost use Rattle.std.specs.Prelude.{◌≡◌, true, ◌+◌, ◌-◌, ◌≤◌, length, get_or, set, take};
 ghost use Rattle.state.specs.Sound.{sound_of};
 ghost use Rattle.session.specs.declared.Event.TheVariants.{None};
 
 use session::Event;
 use state::{Unit, changes};
+use std::io::Read;
+
+// So many bytes are read and written at once.
+pub const LARGE: usize = 65536;
+
+// How many bytes were read: they stand at the front, and are those that the input lost, where these are known. A read that fails ends the input.
+pub fn read<R: Read>(input: &mut R, buf: &mut [u8]) -> usize
+    ensures most { result ≤ length buf.old }
+    ensures front { Consumes (R.remaining input.old) (R.remaining input.new) (take result buf.new) }
+{
+    match input.read(buf) {
+        Ok(n) => n,
+        Err(_) => 0,
+    }
+}
 
 // Nothing is promised: what is written lies outside the proofs, and is run and compared (decision 33, docs/DECISIONS.md). Where writing fails, no one
 // is left to tell: the lines that follow are taken as ever.
