@@ -1,27 +1,12 @@
-use Rattle.std.proofs.Common.{arith, rules}
+use Rattle.std.proofs.Common.{arith}
 use Rattle.session.specs.WalkLaws.{walk_start, walk_pass, walk_skip}
 use Rattle.bench.proofs.scan.Goals as goal
 
 pub loop-i-init : goal.loop-i-init
 loop-i-init c = walk_start _ _ _ (omega arith)
 
-pub bounds-buf-i : goal.bounds-buf-i
-bounds-buf-i c = omega arith
-
-pub overflow_add-i : goal.overflow_add-i
-overflow_add-i c = omega arith
-
-pub step-t-requires : goal.step-t-requires
-step-t-requires c = search rules
-
-pub loop-i-smaller-then-t : goal.loop-i-smaller-then-t
-loop-i-smaller-then-t c = omega arith
-
 pub loop-i-preserved-then-t : goal.loop-i-preserved-then-t
 loop-i-preserved-then-t c = walk_pass _ _ _ _ _ _ c.loop-i.invariant _ c.step-t.ensures (omega (arith, c.loop-i-test.true)) c.if-c-eq10.false c.if-t.true
-
-pub loop-i-smaller : goal.loop-i-smaller
-loop-i-smaller c = omega arith
 
 pub loop-i-preserved : goal.loop-i-preserved
 loop-i-preserved c = walk_skip _ _ _ _ _ _ c.loop-i.invariant _ c.step-t.ensures (omega (arith, c.loop-i-test.true)) c.if-c-eq10.false c.if-t.false

@@ -2,9 +2,6 @@ use Rattle.std.proofs.Common.{arith, length, ◌≡◌, rules}
 use Rattle.reply.specs.PutLaws.{copied_start, copied_on, put_none, put_all}
 use Rattle.reply.proofs.put.Goals as goal
 
-pub count-n-requires : goal.count-n-requires
-count-n-requires c = search rules
-
 pub returns-then-room-n : goal.returns-then-room-n
 returns-then-room-n c = put_none _ c.args.q _ c.count-n.ensures c.if-room-n.true
 
@@ -14,14 +11,8 @@ loop-i-init c = copied_start c.args.q _ _ c.count-n.ensures c.if-room-n.false
 pub bounds-bytes-i : goal.bounds-bytes-i
 bounds-bytes-i c = let long : length c.args.q.bytes ≡ 17 = search rules in omega arith
 
-pub bounds-room-i : goal.bounds-room-i
-bounds-room-i c = omega arith
-
 pub overflow_add-i : goal.overflow_add-i
 overflow_add-i c = let long : length c.args.q.bytes ≡ 17 = search rules in omega arith
-
-pub loop-i-smaller : goal.loop-i-smaller
-loop-i-smaller c = omega arith
 
 pub loop-i-preserved : goal.loop-i-preserved
 loop-i-preserved c = copied_on _ _ _ _ _ c.loop-i-test.true c.loop-i.invariant

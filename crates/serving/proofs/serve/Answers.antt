@@ -8,44 +8,14 @@ use Rattle.serving.proofs.serve.Goals.{else-loop-i-test, then-loop-i-test+then-m
 pub loop-i-init : goal.loop-i-init
 loop-i-init c = serving_start _ _ _ (omega arith) (search rules)
 
-pub overflow_sub-m : goal.overflow_sub-m
-overflow_sub-m c = omega arith
-
-pub bounds-bytes-i : goal.bounds-bytes-i
-bounds-bytes-i c = omega arith
-
-pub overflow_add-i : goal.overflow_add-i
-overflow_add-i c = omega arith
-
-pub advance-f-requires : goal.advance-f-requires
-advance-f-requires c = search rules
-
-pub bounds-kept-k : goal.bounds-kept-k
-bounds-kept-k c = search rules
-
-pub loop-i-smaller-then-k-lt-MOST : goal.loop-i-smaller-then-k-lt-MOST
-loop-i-smaller-then-k-lt-MOST c = omega arith
-
 pub loop-i-preserved-then-k-lt-MOST : goal.loop-i-preserved-then-k-lt-MOST
 loop-i-preserved-then-k-lt-MOST c = search (turn_kept _ _ _ _ _ _ _ c.loop-i.invariant, not-true)
-
-pub loop-i-smaller-then-pos : goal.loop-i-smaller-then-pos
-loop-i-smaller-then-pos c = omega arith
 
 pub loop-i-preserved-then-pos : goal.loop-i-preserved-then-pos
 loop-i-preserved-then-pos c = search (turn_long _ _ _ _ _ _ _ c.loop-i.invariant, not-true)
 
-pub loop-i-smaller-then-not-f : goal.loop-i-smaller-then-not-f
-loop-i-smaller-then-not-f c = omega arith
-
 pub loop-i-preserved-then-not-f : goal.loop-i-preserved-then-not-f
 loop-i-preserved-then-not-f c = search (turn_same _ _ _ _ _ _ _ c.loop-i.invariant, not-true)
-
-pub obey-a-requires : goal.obey-a-requires
-obey-a-requires c = search rules
-
-pub fresh_pos-pos-requires : goal.fresh_pos-pos-requires
-fresh_pos-pos-requires c = search rules
 
 pub slice_bounds-put-count : goal.slice_bounds-put-count
 slice_bounds-put-count c = omega (arith, c.loop-i.invariant.going.fits, c.loop-i.invariant.going.long)
@@ -53,26 +23,14 @@ slice_bounds-put-count c = omega (arith, c.loop-i.invariant.going.fits, c.loop-i
 pub slice_bounds-put-start : goal.slice_bounds-put-start
 slice_bounds-put-start c = omega (arith, c.loop-i.invariant.going.fits, c.loop-i.invariant.going.long)
 
-pub slice_bounds-put-end : goal.slice_bounds-put-end
-slice_bounds-put-end c = search rules
-
-pub put-at-requires : goal.put-at-requires
-put-at-requires c = search rules
-
 pub overflow_add-at : goal.overflow_add-at
 overflow_add-at c = search (turn_adds _ _ _ _ _ _ _ c.loop-i.invariant)
-
-pub made-v-requires : goal.made-v-requires
-made-v-requires c = search rules
 
 pub loop-i-smaller : goal.loop-i-smaller
 loop-i-smaller c = omega (arith, c.loop-i-test.true)
 
 pub loop-i-preserved : goal.loop-i-preserved
 loop-i-preserved c = search (turn_ended _ _ _ _ _ _ _ c.loop-i.invariant, not-false, c.loop-i-test.true, c.if-m-at-lt-ROOM.false, c.advance-f.ensures, c.if-not-f.false, c.obey-a.ensures, c.made-v.ensures)
-
-pub handed-requires : goal.handed-requires
-handed-requires c = search rules
 
 pub returns : goal.returns
 returns c =

@@ -9,7 +9,7 @@ tracked_value-s-requires c = rw c.g_now.ensures (omega (arith, g_now_lem c.args.
 
 pub tracked_zero-requires : goal.tracked_zero-requires
 unfolding tracked_now
-tracked_zero-requires c = let e = c in let s = scale_now e.args.u e.requires in let z = zeros_now_lem e.args.u e.requires in (omega arith, (omega arith, omega arith))
+tracked_zero-requires c = let s = scale_now c.args.u c.requires in let z = zeros_now_lem c.args.u c.requires in (omega arith, (omega arith, omega arith))
 
 pub returns : goal.returns
 unfolding tracked_now

@@ -4,13 +4,8 @@ use Rattle.line.specs.ReadLaws.{ands, all_no, all_on, all_end}
 use Rattle.line.specs.Shape.{is_plain}
 use Rattle.line.proofs.shape.all_plain.Goals as goal
 
--- what is left of the slice answers for the whole of it
-
 pub loop-i-init : goal.loop-i-init
 loop-i-init c = (omega arith, refl)
-
-pub bounds-s-i : goal.bounds-s-i
-bounds-s-i c = omega arith
 
 pub returns-then-b-lt32 : goal.returns-then-b-lt32
 unfolding is_plain
@@ -23,12 +18,6 @@ returns-then-b-gt126 c = sym (search (cases, ands, all_no) depth 8)
 pub returns-then-b-eq34 : goal.returns-then-b-eq34
 unfolding is_plain
 returns-then-b-eq34 c = sym (search (cases, ands, all_no) depth 8)
-
-pub overflow_add-i : goal.overflow_add-i
-overflow_add-i c = omega arith
-
-pub loop-i-smaller : goal.loop-i-smaller
-loop-i-smaller c = omega arith
 
 pub loop-i-preserved : goal.loop-i-preserved
 unfolding is_plain

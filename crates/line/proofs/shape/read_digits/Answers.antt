@@ -4,8 +4,6 @@ use Rattle.line.specs.ReadLaws.{ands, all_no, all_on, all_end, value_on, value_e
 use Rattle.line.specs.Shape.{is_digit, digits_of}
 use Rattle.line.proofs.shape.read_digits.Goals as goal
 
--- what is left of the slice answers for the whole of it
-
 pub returns-then-n-lt1 : goal.returns-then-n-lt1
 unfolding digits_of
 returns-then-n-lt1 c = record { value = search (cases, ands) depth 8; small = tt }
@@ -16,9 +14,6 @@ returns-then-n-gt10 c = record { value = search (cases, ands) depth 8; small = t
 
 pub loop-i-init : goal.loop-i-init
 loop-i-init c = (omega arith, refl, refl, omega arith)
-
-pub bounds-s-i : goal.bounds-s-i
-bounds-s-i c = omega arith
 
 pub returns-then-b-lt48 : goal.returns-then-b-lt48
 unfolding digits_of is_digit
@@ -31,17 +26,8 @@ returns-then-b-gt57 c = record { value = search (cases, ands, all_no) depth 8; s
 pub overflow_mul-v : goal.overflow_mul-v
 overflow_mul-v c = omega (arith, room c.loop-i.i 9 c.loop-i.v c.loop-i.invariant.3 (omega arith))
 
-pub overflow_cast-v : goal.overflow_cast-v
-overflow_cast-v c = omega arith
-
 pub overflow_add-v : goal.overflow_add-v
 overflow_add-v c = omega (arith, room c.loop-i.i 9 c.loop-i.v c.loop-i.invariant.3 (omega arith))
-
-pub overflow_add-i : goal.overflow_add-i
-overflow_add-i c = omega arith
-
-pub loop-i-smaller : goal.loop-i-smaller
-loop-i-smaller c = omega arith
 
 pub loop-i-preserved : goal.loop-i-preserved
 unfolding is_digit

@@ -4,5 +4,4 @@ use Rattle.weight.proofs.sets.scale_in.Goals as goal
 pub returns : goal.returns
 unfolding scale_in
 returns c =
-    let n = c in
-    rw (c.is_step.ensures, n.is_nominal.ensures, n.is_gravity-2.ensures, n.is_gravity.ensures, n.curve_in.ensures)
+    rw (c.is_step.ensures, c.is_nominal.ensures, c.is_gravity-2.ensures, c.is_gravity.ensures, c.curve_in.ensures)

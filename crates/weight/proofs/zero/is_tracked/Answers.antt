@@ -6,5 +6,4 @@ use Rattle.weight.proofs.zero.is_tracked.Goals as goal
 pub returns : goal.returns
 unfolding tracks
 returns c =
-    let e = c in
-    ap (λ n. ltb 0 n && ltb n (5 * e.args.rsn)) (c.size-n.ensures ∙ ap nat_abs (same_eq e.args.s.0 (omega arith)))
+    ap (λ n. ltb 0 n && ltb n (5 * c.args.rsn)) (c.size-n.ensures ∙ ap nat_abs (same_eq c.args.s.0 (omega arith)))
