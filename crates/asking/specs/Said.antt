@@ -1,23 +1,26 @@
 -- What the steps of a query come to. Assumes nothing.
-use Rattle.std.specs.Prelude.{◌≡◌, ℤ}
+use Rattle.std.specs.Prelude.{◌≡◌, Result, Ok, Err}
 use borrow.Author.Tests.{ne_eqb}
-use Rattle.reply.specs.declared.Shown.{Shown}
+use Rattle.reply.specs.declared.Reply.{Reply}
 use Rattle.reply.specs.Reply.{signed_text, status_text, word4_text, word2_text, reply_of}
 use Rattle.weight.specs.Display.{in_decimal, in_four, in_two}
 use Rattle.weighing.specs.Reading.{shown_now}
 use Rattle.state.specs.declared.Unit.{Unit as TheUnit}
 use Rattle.state.specs.Changes.{gated}
-use Rattle.plans.specs.ObeyLaws.{Answer}
+use Rattle.state.specs.declared.Reason.{Reason}
+use Rattle.plans.specs.Obey.{refused_of}
+use Rattle.plans.specs.ObeyLaws.{Answer, answer_of}
 use Rattle.asking.specs.declared.Noted.{Noted}
 use Rattle.plans.specs.Queries.{address, status_now, msv_text}
 
--- a number that a reply prints
-abbrev pub printed : ℤ → Shown
-printed z = record { 0 = z }
+-- what a query comes to: the reason that is noted after it is all that it changes; or it is refused
+abbrev pub said_by : TheUnit → Result Noted Reason → Answer
+said_by u (Ok s) = record { unit = gated u u.unlocked s.reason; reply = s.reply }
+said_by u (Err why) = answer_of (refused_of u why)
 
--- what a query comes to: the reason that is noted after it is all that it changes
-abbrev pub said_by : TheUnit → Noted → Answer
-said_by u s = record { unit = gated u u.unlocked s.reason; reply = s.reply }
+-- a reply that leaves the reason
+abbrev pub left_by : TheUnit → Reply → Result Noted Reason
+left_by u q = Ok (record { reason = u.reason; reply = q })
 
 -- MSV? by the format
 module _ (u : TheUnit) where

@@ -1,9 +1,15 @@
--- What the steps of TDD come to. Assumes nothing.
-use Rattle.std.specs.Prelude.{Bool, ◌||◌}
-use Rattle.cases.specs.Pick.{pick}
+-- What the steps of SPW and DPW come to. Assumes nothing.
+use Rattle.std.specs.Prelude.{Result, Ok, Err, List, ℕ, take, drop}
+use Rattle.line.specs.declared.shape.Param.{Param}
+use Rattle.line.specs.declared.shape.Param.TheVariants as param
+use Rattle.state.specs.declared.Password.{Password}
 use Rattle.state.specs.declared.Reason.{Reason}
-use Rattle.state.specs.declared.Reason.TheVariants.{None, Locked, Barred, Value}
+use Rattle.state.specs.declared.Reason.TheVariants.{Form}
+use Rattle.plans.specs.Plans.{word_of}
 
--- the value first; lock and seal bar 0 alone
-abbrev pub tdd_reason : Bool → Bool → Bool → Bool → Reason
-tdd_reason ok others opened unsealed = pick ok (pick (others || opened) (pick (others || unsealed) None Barred) Locked) Value
+-- a text as a password, or a form that the command lacks
+abbrev pub word_typed : List ℕ → Param → Result Password Reason
+word_typed s param.Nothing = Err Form
+word_typed s param.Query = Err Form
+word_typed s (param.Number x) = Err Form
+word_typed s (param.Text a k) = Ok (word_of (take k (drop a s)))

@@ -1,6 +1,7 @@
 -- Demand 1: a refused command answers `?` with its numbered reason, changes no setting and touches no reply byte beyond its own. Assumes nothing.
 -- That each operation ends, takes everything and needs nothing beforehand is in the contracts of crate `wire`: none has a condition.
 use mathlib.Core.Path.{◌≡◌, refl, sym, ap, subst, ◌∙◌}
+use Rattle.line.specs.Shape.{calls, ill_formed, unnamed}
 use mathlib.Core.Logic.{⊎_elim}
 use mathlib.Core.Bool.{Bool, true, false}
 use Prim.Native.Nat.{ℕ}
@@ -8,7 +9,6 @@ use Rattle.line.specs.declared.names.Name.{Name}
 use Rattle.line.specs.declared.names.Name.TheVariants as name
 use Rattle.line.specs.declared.shape.Param.{Param}
 use Rattle.line.specs.declared.shape.Param.TheVariants as param
-use Rattle.line.specs.declared.shape.Shape.TheVariants as shaped
 use Rattle.line.specs.Param.{is_query, text_in}
 use Rattle.reply.specs.Reply.{refused_text, done_text}
 use Rattle.state.specs.declared.Unit.{Unit as TheUnit}
@@ -61,29 +61,29 @@ module _ (u : TheUnit) (b : ℕ) (e : ends u b ≡ true) where
   unfolding judge
   too_long d l = let o = judged_line u u.kept u.pos d in (end_text u b e ∙ rw (o, l), ap (λ (v : TheUnit). v.reason) (end_unit u b e) ∙ rw (o, l))
 
-  pub malformed : (u.pos.len ≡ 0 → ⊥) → u.pos.long ≡ false → shape u ≡ shaped.Malformed → (reply u (byte b) ≡ refused_text) × ((next u (byte b)).reason ≡ 2)
+  pub malformed : (u.pos.len ≡ 0 → ⊥) → u.pos.long ≡ false → shape u ≡ ill_formed → (reply u (byte b) ≡ refused_text) × ((next u (byte b)).reason ≡ 2)
   unfolding judge
   malformed d l s = let o = judged_line u u.kept u.pos d in (end_text u b e ∙ rw (o, l, s), ap (λ (v : TheUnit). v.reason) (end_unit u b e) ∙ rw (o, l, s))
 
-  pub unknown : (u.pos.len ≡ 0 → ⊥) → u.pos.long ≡ false → shape u ≡ shaped.Unknown → (reply u (byte b) ≡ refused_text) × ((next u (byte b)).reason ≡ 1)
+  pub unknown : (u.pos.len ≡ 0 → ⊥) → u.pos.long ≡ false → shape u ≡ unnamed → (reply u (byte b) ≡ refused_text) × ((next u (byte b)).reason ≡ 1)
   unfolding judge
   unknown d l s = let o = judged_line u u.kept u.pos d in (end_text u b e ∙ rw (o, l, s), ap (λ (v : TheUnit). v.reason) (end_unit u b e) ∙ rw (o, l, s))
 
-  pub in_table_order : (n : Name) (q : Param) → u.pos.long ≡ false → shape u ≡ shaped.Command n q → is_query q ≡ false → (n ≡ name.Tdd → ⊥) → (n ≡ name.Lwt → ⊥) → InOrder (plan u).needs
+  pub in_table_order : (n : Name) (q : Param) → u.pos.long ≡ false → shape u ≡ calls n q → is_query q ≡ false → (n ≡ name.Tdd → ⊥) → (n ≡ name.Lwt → ⊥) → InOrder (plan u).needs
   in_table_order n q l s a t w =
       let p : plan u ≡ command_plan u (line u) n q =
       ap (line_plan u (line u)) l ∙ ap (shape_plan u (line u)) s ∙ ap (λ (x : Bool). pick x (query_plan u n) (command_plan u (line u) n q)) a in
       subst (λ (x : Plan). InOrder x.needs) (sym p) (in_order u (line u) n q t w)
 
   -- a wrong password locks and is refused with 11, the right one opens, and no other line is refused with 11
-  pub wrong_password : (a k : ℕ) → u.pos.long ≡ false → shape u ≡ shaped.Command name.Spw (param.Text a k) → same_word (word_of (text_in (param.Text a k) (line u))) u.password ≡ false →
+  pub wrong_password : (a k : ℕ) → u.pos.long ≡ false → shape u ≡ calls name.Spw (param.Text a k) → same_word (word_of (text_in (param.Text a k) (line u))) u.password ≡ false →
       (reply u (byte b) ≡ refused_text) × (((next u (byte b)).reason ≡ 11) × ((next u (byte b)).unlocked ≡ false))
   unfolding judge
   wrong_password a k l s w =
       let o = obeyed u u.kept u.pos name.Spw (param.Text a k) l s in
       (end_text u b e ∙ rw (o, w), (ap (λ (v : TheUnit). v.reason) (end_unit u b e) ∙ rw (o, w), ap (λ (v : TheUnit). v.unlocked) (end_unit u b e) ∙ rw (o, w)))
 
-  pub right_password : (a k : ℕ) → u.pos.long ≡ false → shape u ≡ shaped.Command name.Spw (param.Text a k) → same_word (word_of (text_in (param.Text a k) (line u))) u.password ≡ true →
+  pub right_password : (a k : ℕ) → u.pos.long ≡ false → shape u ≡ calls name.Spw (param.Text a k) → same_word (word_of (text_in (param.Text a k) (line u))) u.password ≡ true →
       (reply u (byte b) ≡ done_text) × ((next u (byte b)).unlocked ≡ true)
   unfolding judge
   right_password a k l s w =
@@ -94,6 +94,6 @@ module _ (u : TheUnit) (b : ℕ) (e : ends u b ≡ true) where
   locks_by_password r z = let k = refused r in eleven_by_spw u (line u) u.pos.long (obey_of u u.kept u.pos) k.first (sym k.number ∙ z)
 
   -- a line that is done leaves the reason, but for ESR?, which gives and clears it, and RES, which restarts
-  pub reason_left : (reply u (byte b) ≡ refused_text → ⊥) → ((q : Param) → shape u ≡ shaped.Command name.Esr q → ⊥) → ((q : Param) → shape u ≡ shaped.Command name.Res q → ⊥) →
+  pub reason_left : (reply u (byte b) ≡ refused_text → ⊥) → ((q : Param) → shape u ≡ calls name.Esr q → ⊥) → ((q : Param) → shape u ≡ calls name.Res q → ⊥) →
       (next u (byte b)).reason ≡ u.reason
   reason_left d p q = ap (λ (v : TheUnit). v.reason) (end_unit u b e) ∙ reason_stays u u.kept u.pos (λ t. d (end_text u b e ∙ t)) p q

@@ -1,5 +1,6 @@
 -- Demand 2: replies, weights, zeros and tares are exactly those of document 01. Assumes nothing.
 use mathlib.Core.Path.{◌≡◌, refl, ◌∙◌}
+use Rattle.line.specs.Shape.{calls}
 use mathlib.Core.Logic.{◌⊎◌, inl, inr}
 use mathlib.Core.Bool.{Bool, true, false}
 use mathlib.Core.List.{List, [], ◌∷◌, ◌++◌}
@@ -10,7 +11,6 @@ use Rattle.cases.specs.Pick.{pick}
 use Rattle.cases.specs.PickLaws.{split}
 use Rattle.line.specs.declared.names.Name.TheVariants as name
 use Rattle.line.specs.declared.shape.Param.TheVariants as param
-use Rattle.line.specs.declared.shape.Shape.TheVariants as shaped
 use Rattle.weight.specs.declared.Cell.{Cell}
 use Rattle.weight.specs.declared.Place.{Place}
 use Rattle.weight.specs.declared.Place.TheVariants as place
@@ -59,7 +59,7 @@ pub empty_quiet : (u : TheUnit) (b : ℕ) → ends u b ≡ true → u.pos.len �
 unfolding obey_of
 empty_quiet u b e z = end_text u b e ∙ rw (eq-eqb u.pos.len 0 z)
 
-pub res_quiet : (u : TheUnit) (b : ℕ) → ends u b ≡ true → u.pos.long ≡ false → shape u ≡ shaped.Command name.Res param.Nothing → (reply u (byte b) ≡ []) × (next u (byte b) ≡ restarted_of u)
+pub res_quiet : (u : TheUnit) (b : ℕ) → ends u b ≡ true → u.pos.long ≡ false → shape u ≡ calls name.Res param.Nothing → (reply u (byte b) ≡ []) × (next u (byte b) ≡ restarted_of u)
 unfolding judge
 res_quiet u b e l x =
     let o = obeyed u u.kept u.pos name.Res param.Nothing l x in

@@ -1,5 +1,6 @@
 -- Demand 3: what a restart brings back, what the counter counts, and what the seal keeps. Assumes nothing.
 use mathlib.Core.Path.{◌≡◌, refl, sym, ap, ◌∙◌}
+use Rattle.line.specs.Shape.{calls}
 use mathlib.Core.Bool.{true, false}
 use mathlib.Core.List.{List, [], ◌∷◌, ◌++◌, append_assoc, append-nil}
 use Prim.Native.Nat.{ℕ, ◌+◌, ◌<◌, ◌≤◌, min}
@@ -10,7 +11,6 @@ use Rattle.cases.specs.Pick.{pick}
 use Rattle.cases.specs.PickLaws.{split}
 use Rattle.line.specs.declared.names.Name.TheVariants as name
 use Rattle.line.specs.declared.shape.Param.TheVariants as param
-use Rattle.line.specs.declared.shape.Shape.TheVariants as shaped
 use Rattle.line.specs.Line.{moved_of}
 use Rattle.state.specs.declared.Settings.{Settings}
 use Rattle.state.specs.declared.Unit.{Unit as TheUnit}
@@ -60,11 +60,11 @@ unfolding after
 restart_brings_last_save u n es = ap (λ (v : TheUnit). v.used) (after_append es (power ∷ []) u) ∙ saved_new u n es
 
 -- and by RES: a line of that shape, at its end mark
-res_obeyed : (v : TheUnit) → v.pos.long ≡ false → shape v ≡ shaped.Command name.Res param.Nothing → (obey_of v v.kept v.pos).next.used ≡ v.saved
+res_obeyed : (v : TheUnit) → v.pos.long ≡ false → shape v ≡ calls name.Res param.Nothing → (obey_of v v.kept v.pos).next.used ≡ v.saved
 unfolding judge
 res_obeyed v l s = rw (obeyed v v.kept v.pos name.Res param.Nothing l s)
 
-pub res_brings_last_save : (u : TheUnit) → New u → (es : List Event) (b : ℕ) → ends (after u es) b ≡ true → (after u es).pos.long ≡ false → shape (after u es) ≡ shaped.Command name.Res param.Nothing →
+pub res_brings_last_save : (u : TheUnit) → New u → (es : List Event) (b : ℕ) → ends (after u es) b ≡ true → (after u es).pos.long ≡ false → shape (after u es) ≡ calls name.Res param.Nothing →
     (after u (es ++ (byte b ∷ []))).used ≡ last_saved factory_of u es
 unfolding after
 res_brings_last_save u n es b e l s =
@@ -185,7 +185,7 @@ calls_restart u n cs v k =
 
 -- the same where RES ends a block that was taken whole
 pub calls_res : (u : TheUnit) → New u → (cs : List Call) (t : List ℕ) (b : ℕ) (m : List ℕ) (r : Taken) (m' : List ℕ) → Calls u (cs ++ (Took (t ++ (b ∷ [])) m r m' ∷ [])) → take r.taken (t ++ (b ∷ [])) ≡ t ++ (b ∷ []) →
-    ends (after u (all_events cs ++ bytes t)) b ≡ true → (after u (all_events cs ++ bytes t)).pos.long ≡ false → shape (after u (all_events cs ++ bytes t)) ≡ shaped.Command name.Res param.Nothing →
+    ends (after u (all_events cs ++ bytes t)) b ≡ true → (after u (all_events cs ++ bytes t)).pos.long ≡ false → shape (after u (all_events cs ++ bytes t)) ≡ calls name.Res param.Nothing →
     r.next.used ≡ last_saved factory_of u (all_events cs ++ bytes t)
 calls_res u n cs t b m r m' k w e l s =
     let c = Took (t ++ (b ∷ [])) m r m' in

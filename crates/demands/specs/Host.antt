@@ -1,9 +1,8 @@
 -- What reaches a unit, the machine that document 01 describes, and a host's calls of the public operations. What a reader must believe.
 use Rattle.std.specs.Prelude.{◌≡◌, Bool, List, [], ◌∷◌, ◌++◌, ℕ, ◌-◌, ◌<◌, ◌≤◌, ℤ, length, take, drop}
 use Rattle.cases.specs.Run.{room_of}
-use Rattle.line.specs.declared.shape.Shape.{Shape}
-use Rattle.line.specs.Line.{moved_of}
-use Rattle.line.specs.Shape.{shape_of}
+use Rattle.line.specs.Line.{is_end, moved_of}
+use Rattle.line.specs.Shape.{shape_of, Shape}
 use Rattle.reply.specs.Reply.{ROOM}
 use Rattle.state.specs.declared.Unit.{Unit as TheUnit}
 use Rattle.state.specs.Changes.{new_unit, restarted_of}
@@ -51,7 +50,7 @@ bytes (b ∷ s) = byte b ∷ bytes s
 -- ---- the line that a unit holds
 -- a byte is its end mark
 abbrev pub ends : TheUnit → ℕ → Bool
-ends u b = (moved_of u.pos b).ended
+ends u b = is_end (moved_of u.pos b).act
 
 -- the bytes it kept, and their shape
 abbrev pub line : TheUnit → List ℕ

@@ -1,8 +1,8 @@
 -- The words of demands 1 and 2: a line done or refused, how a byte is replied to, what a reading displays. What a reader must believe.
 use Rattle.std.specs.Prelude.{◌≡◌, ◌⊎◌, true, false, not, ◌&&◌, List, [], ◌∷◌, ℕ, eqb, ◌+ℤ◌}
+use Rattle.line.specs.Shape.{calls}
 use Rattle.line.specs.declared.names.Name.TheVariants as name
 use Rattle.line.specs.declared.shape.Param.TheVariants as param
-use Rattle.line.specs.declared.shape.Shape.TheVariants as shaped
 use Rattle.line.specs.Line.{none_kept, fresh_pos}
 use Rattle.reply.specs.Reply.{refused_text}
 use Rattle.weight.specs.declared.Place.TheVariants as place
@@ -51,7 +51,7 @@ pub data Replied (u : TheUnit) (b : ℕ) : Type 0 where
   -- at the end of a line that kept nothing, not at all
   empty : ends u b ≡ true → u.pos.len ≡ 0 → reply u (byte b) ≡ [] → Replied u b
   -- at the end of a done RES, not at all
-  restart : ends u b ≡ true → u.pos.long ≡ false → shape u ≡ shaped.Command name.Res param.Nothing → next u (byte b) ≡ restarted_of u → reply u (byte b) ≡ [] → Replied u b
+  restart : ends u b ≡ true → u.pos.long ≡ false → shape u ≡ calls name.Res param.Nothing → next u (byte b) ≡ restarted_of u → reply u (byte b) ≡ [] → Replied u b
   -- at the end of any other line by one reply: `?`, or one of the forms that a done line's reply has
   one : ends u b ≡ true → (u.pos.len ≡ 0 → ⊥) → (reply u (byte b) ≡ refused_text) ⊎ Form (reply u (byte b)) → Replied u b
 

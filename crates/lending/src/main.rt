@@ -12,11 +12,7 @@ fn ask(rt: &impl Print, u: Unit, bytes: &[u8]) -> Unit
 {
     let mut room = [0u8; 64];
     let t = lent::lend_bytes(u, bytes, &mut room);
-    let n = t.written;
-    match rt.write_all(&room[..n]) {
-        Ok(()) => {}
-        Err(_) => {}
-    }
+    let _ = rt.write_all(&room[..t.written]);
     t.next
 }
 

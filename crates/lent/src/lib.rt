@@ -42,7 +42,8 @@ pub fn on_restart(u: &mut Unit)
     *u = wire::restart(*u);
 }
 
-// The same events for a caller that holds its unit by value: it need not make a reference itself.
+// The same events for a caller that holds its unit by value: it need not make a reference itself. Each promises its own event, so they are three and
+// not one that takes the event as a closure.
 pub fn lend_bytes(u: Unit, bytes: &[u8], room: &mut [u8]) -> Taken
     ensures taken { result ≡ taken_of (block_of u (length room.old) bytes.now) }
     ensures room { room.new ≡ room_of (block_of u (length room.old) bytes.now) room.old }

@@ -1,5 +1,5 @@
 -- What is written as document 01 says is read as what it is: no reader that refuses well-formed lines meets `shape_of`. Assumes nothing.
-use Rattle.std.specs.Prelude.{Bool, ◌&&◌, ◌≡◌, ℕ, zero, suc, ◌+◌, ◌-◌, ◌*◌, ◌/◌, ◌%◌, ◌^◌, ◌≤◌, ◌<◌, pos, neg_ℤ, get_or, leb}
+use Rattle.std.specs.Prelude.{Bool, ◌&&◌, ◌≡◌, ℕ, zero, suc, ◌+◌, ◌-◌, ◌*◌, ◌/◌, ◌%◌, ◌^◌, ◌≤◌, ◌<◌, pos, neg_ℤ, get_or, leb, Option, Some, None}
 use Rattle.std.proofs.Math.Bool.{true, false}
 use Rattle.std.proofs.Math.Path.{refl}
 use Rattle.std.proofs.Common.{sym, ap, ◌∙◌, pow-suc, add-mul, mul_assoc, mul_comm, mod-lt, div-add-mod', add-one, lit<}
@@ -10,24 +10,21 @@ use Rattle.std.proofs.Math.Seq.{take_at, get_or_at}
 use borrow.Author.Tests.{ne_eqb, le-ltb, le-leb, lt-leb, leb-true}
 use Rattle.cases.specs.PickLaws.{never}
 use Rattle.line.specs.declared.names.Letters.{Letters}
-use Rattle.line.specs.declared.names.Called.{Called}
-use Rattle.line.specs.declared.names.Called.TheVariants as called
 use Rattle.line.specs.declared.shape.Param.TheVariants as param
-use Rattle.line.specs.declared.shape.Reading.TheVariants as reading
-use Rattle.line.specs.declared.shape.Digits.TheVariants as digits
+use Rattle.line.specs.declared.names.Name.{Name}
 use Rattle.line.specs.Cut.{Every}
-use Rattle.line.specs.Names.{Entry, names, same_of, look_of, called_of}
+use Rattle.line.specs.Names.{Entry, letters, names, same_of, look_of, called_of}
 use Rattle.line.specs.Param.{number, text_in}
 use Rattle.line.specs.Shape.{all_of, is_letter, fold_of, is_digit, value_from, is_digits, digits_of, signed_of, number_of, is_plain, text_of, param_of, known_of, command_of, shape_of}
 use Rattle.line.specs.ReadLaws.{and_first, and_second}
 use Rattle.line.specs.Written.{decimal, between, is_upper, upper_of, cased, letters_of, Reads}
 
 -- nothing, and a query
-pub nothing_reads : param_of [] ≡ reading.Is param.Nothing
+pub nothing_reads : param_of [] ≡ Some param.Nothing
 unfolding param_of
 nothing_reads = refl
 
-pub query_reads : param_of (0x3f ∷ []) ≡ reading.Is param.Query
+pub query_reads : param_of (0x3f ∷ []) ≡ Some param.Query
 unfolding param_of
 query_reads = refl
 
@@ -83,15 +80,15 @@ decimal_value (suc k) n h =
 
 -- 1 to 10 digits read as their value, with no sign, with "+" and with "-"
 module _ (s : List ℕ) (d : is_digits s ≡ true) where
-  digits_read : digits_of s ≡ digits.Value (value_from 0 s)
+  digits_read : digits_of s ≡ Some (value_from 0 s)
   unfolding digits_of
   digits_read = rw d
 
-  pub plus_reads : param_of (0x2b ∷ s) ≡ reading.Is (param.Number (number (pos (value_from 0 s))))
+  pub plus_reads : param_of (0x2b ∷ s) ≡ Some (param.Number (number (pos (value_from 0 s))))
   unfolding param_of number_of signed_of
   plus_reads = simp (le-ltb (suc (length s)) 1 (omega arith), digits_read)
 
-  pub minus_reads : param_of (0x2d ∷ s) ≡ reading.Is (param.Number (number (neg_ℤ (pos (value_from 0 s)))))
+  pub minus_reads : param_of (0x2d ∷ s) ≡ Some (param.Number (number (neg_ℤ (pos (value_from 0 s)))))
   unfolding param_of number_of signed_of
   minus_reads = simp (le-ltb (suc (length s)) 1 (omega arith), digits_read)
 
@@ -101,31 +98,31 @@ module _ (b : ℕ) (t : List ℕ) (d : is_digits (b ∷ t) ≡ true) where
   unfolding all_of
   first_digit = and_first (is_digit b) (all_of is_digit t) (and_second (leb (suc (length t)) 10) (is_digit b && all_of is_digit t) (and_second (leb 1 (suc (length t))) (leb (suc (length t)) 10 && (is_digit b && all_of is_digit t)) d))
 
-  bare : param_of (b ∷ t) ≡ reading.Is (param.Number (number (pos (value_from 0 (b ∷ t)))))
+  bare : param_of (b ∷ t) ≡ Some (param.Number (number (pos (value_from 0 (b ∷ t)))))
   unfolding param_of number_of signed_of is_digit
   bare =
       let lo : 0x30 ≤ b = leb-true 0x30 b (and_first (leb 0x30 b) (leb b 0x39) first_digit) in
       let hi : b ≤ 0x39 = leb-true b 0x39 (and_second (leb 0x30 b) (leb b 0x39) first_digit) in
       simp (le-ltb (suc (length t)) 1 (omega arith), ne_eqb b 0x3f (λ e. omega arith), ne_eqb b 0x22 (λ e. omega arith), ne_eqb b 0x2d (λ e. omega arith), ne_eqb b 0x2b (λ e. omega arith), digits_read (b ∷ t) d)
 
-pub bare_reads : (s : List ℕ) → is_digits s ≡ true → param_of s ≡ reading.Is (param.Number (number (pos (value_from 0 s))))
+pub bare_reads : (s : List ℕ) → is_digits s ≡ true → param_of s ≡ Some (param.Number (number (pos (value_from 0 s))))
 bare_reads [] d = absurd (never (sym d))
 bare_reads (b ∷ t) d = bare b t d
 
 -- so every number of 1 to 10 digits is read back
 module _ (k n : ℕ) (h : n < 10 ^ k) (l : 1 ≤ k) (m : k ≤ 10) where
-  pub number_reads : param_of (decimal k n) ≡ reading.Is (param.Number (number (pos n)))
+  pub number_reads : param_of (decimal k n) ≡ Some (param.Number (number (pos n)))
   number_reads = bare_reads (decimal k n) (decimal_digits k n l m) ∙ rw (decimal_value k n h)
 
-  pub number_plus_reads : param_of (0x2b ∷ decimal k n) ≡ reading.Is (param.Number (number (pos n)))
+  pub number_plus_reads : param_of (0x2b ∷ decimal k n) ≡ Some (param.Number (number (pos n)))
   number_plus_reads = plus_reads (decimal k n) (decimal_digits k n l m) ∙ rw (decimal_value k n h)
 
-  pub number_minus_reads : param_of (0x2d ∷ decimal k n) ≡ reading.Is (param.Number (number (neg_ℤ (pos n))))
+  pub number_minus_reads : param_of (0x2d ∷ decimal k n) ≡ Some (param.Number (number (neg_ℤ (pos n))))
   number_minus_reads = minus_reads (decimal k n) (decimal_digits k n l m) ∙ rw (decimal_value k n h)
 
 -- a text between quotes reads as itself
 module _ (t : List ℕ) (p : all_of is_plain t ≡ true) where
-  pub text_reads : param_of (between t) ≡ reading.Is (param.Text 4 (length t))
+  pub text_reads : param_of (between t) ≡ Some (param.Text 4 (length t))
   unfolding param_of text_of
   text_reads =
       let more : length (t ++ (0x22 ∷ [])) ≡ length t + 1 = length-append t (0x22 ∷ []) in
@@ -165,12 +162,12 @@ module _ (b : ℕ) (u : is_upper b ≡ true) where
 
 -- three letters, then what is well-formed or not
 pub letters_read : (a b c : ℕ) (t : List ℕ) → is_letter a ≡ true → is_letter b ≡ true → is_letter c ≡ true →
-    shape_of (a ∷ b ∷ c ∷ t) ≡ command_of (fold_of a, fold_of b, fold_of c) (param_of t)
+    shape_of (a ∷ b ∷ c ∷ t) ≡ command_of (letters (fold_of a) (fold_of b) (fold_of c)) (param_of t)
 unfolding shape_of
 letters_read a b c t i j k = simp (le-ltb (suc (suc (suc (length t)))) 3 (omega arith), i, j, k)
 
 -- every name's letters, upper-case ones, call that name, and letters that are no name's call none
-pub names_called : map (λ (e : Entry). called_of (letters_of e)) names ≡ map (λ (e : Entry). called.Is e.name) names
+pub names_called : map (λ (e : Entry). called_of (letters_of e)) names ≡ map (λ (e : Entry). Some e.name) names
 unfolding same_of
 names_called = refl
 
@@ -178,11 +175,11 @@ names_upper : map upper_of names ≡ map (λ (e : Entry). true) names
 unfolding is_upper
 names_upper = refl
 
-pub look_none : (l : List Entry) (n : Letters) → Every (λ e. same_of n e.letters ≡ false) l → look_of l n ≡ called.Unknown
+pub look_none : (l : List Entry) (n : Letters) → Every (λ e. same_of n e.letters ≡ false) l → look_of l n ≡ None
 look_none [] n h = refl
 look_none (e ∷ l) n h = rw h.0 (look_none l n h.1)
 
-entry_reads : (e : Entry) → called_of (letters_of e) ≡ called.Is e.name → upper_of e ≡ true → Reads e
+entry_reads : (e : Entry) → called_of (letters_of e) ≡ Some e.name → upper_of e ≡ true → Reads e
 unfolding command_of
 entry_reads e h u x y z t p k =
     let a = get_or e.letters 0 0 in
@@ -192,9 +189,9 @@ entry_reads e h u x y z t p k =
     let ub : is_upper (get_or e.letters 1 0) ≡ true = and_first (is_upper b) (is_upper c) (and_second (is_upper a) (is_upper b && is_upper c) u) in
     let uc : is_upper (get_or e.letters 2 0) ≡ true = and_second (is_upper b) (is_upper c) (and_second (is_upper a) (is_upper b && is_upper c) u) in
     letters_read (cased x a) (cased y b) (cased z c) t (cased_letter a ua x) (cased_letter b ub y) (cased_letter c uc z)
-    ∙ rw (cased_fold a ua x, cased_fold b ub y, cased_fold c uc z, k) (ap (λ (m : Called). known_of m p) h)
+    ∙ rw (cased_fold a ua x, cased_fold b ub y, cased_fold c uc z, k) (ap (λ (m : Option Name). known_of m p) h)
 
-all_read : (l : List Entry) → map (λ (e : Entry). called_of (letters_of e)) l ≡ map (λ (e : Entry). called.Is e.name) l → map upper_of l ≡ map (λ (e : Entry). true) l → Every Reads l
+all_read : (l : List Entry) → map (λ (e : Entry). called_of (letters_of e)) l ≡ map (λ (e : Entry). Some e.name) l → map upper_of l ≡ map (λ (e : Entry). true) l → Every Reads l
 all_read [] h u = tt
 all_read (e ∷ l) h u = (entry_reads e (cc) (cc), all_read l (cc) (cc))
 

@@ -3,7 +3,7 @@
 use Rattle.std.specs.Prelude.{Bool, true, false, ◌≡◌, List, [], ◌∷◌, ◌++◌, map, ℕ, ◌-◌, length, take, replicate, leb}
 use Rattle.cases.specs.Pick.{pick}
 use Rattle.line.specs.declared.cut.Pos.{Pos}
-use Rattle.line.specs.Line.{most, none_kept, fresh_pos, ends_of, drops_of, quoted_of, moved_of, stored_of}
+use Rattle.line.specs.Line.{most, none_kept, fresh_pos, ends_of, drops_of, quoted_of, moved_of, is_end, stored_of}
 
 -- a byte is dropped or counted
 unfoldable pub one_of : Bool → ℕ → List ℕ
@@ -73,7 +73,7 @@ found_at l f = record { lines = l ∷ f.lines; kept = f.kept; pos = f.pos }
 unfoldable pub fed_from : List ℕ → Pos → List ℕ → Fed
 fed_from kept p [] = record { lines = []; kept = kept; pos = p }
 fed_from kept p (b ∷ t) =
-    pick (moved_of p b).ended (found_at (found_of kept p) (fed_from none_kept fresh_pos t))
+    pick (is_end (moved_of p b).act) (found_at (found_of kept p) (fed_from none_kept fresh_pos t))
     (fed_from (stored_of kept (moved_of p b) b) (moved_of p b).pos t)
 
 abbrev pub fed_of : List ℕ → Fed

@@ -3,7 +3,8 @@ use Rattle.std.specs.Prelude.{Bool, true, false, not, ◌≡◌, refl, List, [],
 use Rattle.std.proofs.Common.{sym, ap, ◌∙◌, ⊎_elim, append-nil, append_assoc, eqb-true}
 use Rattle.cases.specs.Pick.{pick}
 use Rattle.cases.specs.PickLaws.{bool_cases, not_both}
-use Rattle.line.specs.Line.{most, ends_of, drops_of, quoted_of, counted_of, moved_of, stored_of}
+use Rattle.line.specs.declared.cut.Act.TheVariants as act
+use Rattle.line.specs.Line.{ends_of, drops_of, quoted_of, counted_of, moved_of, is_end, stored_of}
 use Rattle.line.specs.Cut.{one_of, counts_of, quotes_of, inside_of, ended_at, cut_from, cut_of, found_at, fed_from, fed_of, held_of, kept_at, pos_at, line_of, Every, Again}
 use Rattle.line.specs.LineLaws.{kept_fresh, pos_fresh, found_line, pos_quoted, counted, dropped}
 
@@ -27,11 +28,11 @@ drop_quote q b e = ⊎_elim yes' no' (bool_cases (eqb b 0x22))
 module _ (s : List ℕ) (q : Bool) (b : ℕ) where
   abbrev pub Inside : Type 0
   Inside =
-      ((moved_of (pos_at s q) b).ended ≡ false)
+      (is_end (moved_of (pos_at s q) b).act ≡ false)
       × ((moved_of (pos_at s q) b).pos ≡ pos_at (s ++ one_of q b) (quoted_of q b))
       × (stored_of (kept_at s) (moved_of (pos_at s q) b) b ≡ kept_at (s ++ one_of q b))
 
-  drop_is : ends_of q b ≡ false → drops_of q b ≡ true → moved_of (pos_at s q) b ≡ record { pos = pos_at s q; at = most; ended = false }
+  drop_is : ends_of q b ≡ false → drops_of q b ≡ true → moved_of (pos_at s q) b ≡ record { pos = pos_at s q; act = act.Drops }
   unfolding moved_of
   drop_is n d = simp (pos_quoted s q, n, d)
 
@@ -56,7 +57,7 @@ module _ (s : List ℕ) (q : Bool) (b : ℕ) where
   pub inside : ends_of q b ≡ false → Inside
   inside n = ⊎_elim (inside_drop n) (inside_count n) (bool_cases (drops_of q b))
 
-  pub ended : ends_of q b ≡ true → (moved_of (pos_at s q) b).ended ≡ true
+  pub ended : ends_of q b ≡ true → is_end (moved_of (pos_at s q) b).act ≡ true
   unfolding moved_of
   ended y = simp (pos_quoted s q, y)
 

@@ -1,7 +1,9 @@
 -- What a byte does to the line so far. Document 01, "Command lines", first paragraph. What a reader must believe.
-use Rattle.std.specs.Prelude.{Bool, true, false, not, ◌&&◌, ◌||◌, List, ℕ, ◌+◌, set, replicate, leb, ltb, eqb}
+use Rattle.std.specs.Prelude.{Bool, true, false, not, ◌&&◌, ◌||◌, List, ℕ, ◌+◌, ◌<◌, set, replicate, leb, ltb, eqb}
 use Rattle.cases.specs.Pick.{pick}
 use Rattle.line.specs.declared.cut.Pos.{Pos}
+use Rattle.line.specs.declared.cut.Act.{Act}
+use Rattle.line.specs.declared.cut.Act.TheVariants as act
 use Rattle.line.specs.declared.cut.Moved.{Moved}
 
 -- how many bytes a line holds
@@ -31,16 +33,33 @@ quoted_of q b = pick (eqb b 0x22) (not q) q
 unfoldable pub counted_of : Pos → ℕ → Moved
 counted_of p b =
     pick (ltb p.len most)
-    (record { pos = record { len = p.len + 1; quoted = quoted_of p.quoted b; long = p.long }; at = p.len; ended = false })
-    (record { pos = record { len = most; quoted = quoted_of p.quoted b; long = true }; at = most; ended = false })
+    (record { pos = record { len = p.len + 1; quoted = quoted_of p.quoted b; long = p.long }; act = act.Keeps p.len })
+    (record { pos = record { len = most; quoted = quoted_of p.quoted b; long = true }; act = act.Drops })
 
 -- a byte ends the line, or is dropped, or is counted
 unfoldable pub moved_of : Pos → ℕ → Moved
 moved_of p b =
-    pick (ends_of p.quoted b) (record { pos = p; at = most; ended = true })
-    (pick (drops_of p.quoted b) (record { pos = p; at = most; ended = false })
+    pick (ends_of p.quoted b) (record { pos = p; act = act.Ends })
+    (pick (drops_of p.quoted b) (record { pos = p; act = act.Drops })
     (counted_of p b))
 
+-- whether it ended the line
+abbrev pub is_end : Act → Bool
+is_end act.Ends = true
+is_end (act.Keeps k) = false
+is_end act.Drops = false
+
+-- a byte is kept at a place within the line
+abbrev pub Within : Act → Type 0
+Within act.Ends = Unit
+Within (act.Keeps k) = k < most
+Within act.Drops = Unit
+
 -- the kept bytes after a byte that did not end the line: it is stored at its place, and a line that is too long keeps none
+abbrev pub kept_by : List ℕ → Act → Bool → ℕ → List ℕ
+kept_by kept act.Ends long b = pick long none_kept kept
+kept_by kept (act.Keeps k) long b = set kept k b
+kept_by kept act.Drops long b = pick long none_kept kept
+
 unfoldable pub stored_of : List ℕ → Moved → ℕ → List ℕ
-stored_of kept m b = pick (ltb m.at most) (set kept m.at b) (pick m.pos.long none_kept kept)
+stored_of kept m b = kept_by kept m.act m.pos.long b

@@ -1,11 +1,9 @@
 -- The names of the commands: document 01, the table of "Commands", in its order. What a reader must believe.
-use Rattle.std.specs.Prelude.{Bool, ◌&&◌, List, [], ◌∷◌, ℕ, get_or, eqb}
+use Rattle.std.specs.Prelude.{Bool, ◌&&◌, List, [], ◌∷◌, ℕ, get_or, eqb, Option, Some, None}
 use Rattle.cases.specs.Pick.{pick}
 use Rattle.line.specs.declared.names.Letters.{Letters}
 use Rattle.line.specs.declared.names.Name.{Name}
 use Rattle.line.specs.declared.names.Name.TheVariants as name
-use Rattle.line.specs.declared.names.Called.{Called}
-use Rattle.line.specs.declared.names.Called.TheVariants as called
 
 pub record Entry : Type 0 where
   pub letters : List ℕ
@@ -42,14 +40,17 @@ names =
     ∷ entry 0x45 0x53 0x52 name.Esr
     ∷ []
 
+abbrev pub letters : ℕ → ℕ → ℕ → Letters
+letters a b c = record { 0 = a ∷ b ∷ c ∷ [] }
+
 -- the three letters are those of a fixed byte string
 unfoldable pub same_of : Letters → List ℕ → Bool
-same_of n w = eqb n.0 (get_or w 0 0) && (eqb n.1 (get_or w 1 0) && eqb n.2 (get_or w 2 0))
+same_of n w = eqb (get_or n.0 0 0) (get_or w 0 0) && (eqb (get_or n.0 1 0) (get_or w 1 0) && eqb (get_or n.0 2 0) (get_or w 2 0))
 
 -- what three letters call: the name whose letters they are, or none
-abbrev pub look_of : List Entry → Letters → Called
-look_of [] n = called.Unknown
-look_of (e ∷ t) n = pick (same_of n e.letters) (called.Is e.name) (look_of t n)
+abbrev pub look_of : List Entry → Letters → Option Name
+look_of [] n = None
+look_of (e ∷ t) n = pick (same_of n e.letters) (Some e.name) (look_of t n)
 
-abbrev pub called_of : Letters → Called
+abbrev pub called_of : Letters → Option Name
 called_of n = look_of names n

@@ -1,12 +1,10 @@
 -- How letters, numbers and texts are written, for the laws that what is written is read back. What a reader must believe.
-use Rattle.std.specs.Prelude.{Bool, ◌&&◌, ◌≡◌, List, [], ◌∷◌, ◌++◌, ℕ, zero, suc, ◌+◌, ◌/◌, ◌%◌, get_or, leb}
+use Rattle.std.specs.Prelude.{Bool, ◌&&◌, ◌≡◌, List, [], ◌∷◌, ◌++◌, ℕ, zero, suc, ◌+◌, ◌/◌, ◌%◌, get_or, leb, Some, Ok}
 use Rattle.cases.specs.Pick.{pick}
 use Rattle.line.specs.declared.names.Letters.{Letters}
 use Rattle.line.specs.declared.shape.Param.{Param}
-use Rattle.line.specs.declared.shape.Reading.TheVariants as reading
-use Rattle.line.specs.declared.shape.Shape.TheVariants as shape
-use Rattle.line.specs.Names.{Entry}
-use Rattle.line.specs.Shape.{param_of, shape_of}
+use Rattle.line.specs.Names.{Entry, letters}
+use Rattle.line.specs.Shape.{param_of, command, shape_of}
 
 -- `n` in `k` decimal digits, zeros in front where it has fewer
 unfoldable pub decimal : ℕ → ℕ → List ℕ
@@ -26,7 +24,7 @@ cased lower b = pick lower (b + 0x20) b
 
 -- a name's letters, and that they are upper-case
 abbrev pub letters_of : Entry → Letters
-letters_of e = (get_or e.letters 0 0, get_or e.letters 1 0, get_or e.letters 2 0)
+letters_of e = letters (get_or e.letters 0 0) (get_or e.letters 1 0) (get_or e.letters 2 0)
 
 abbrev pub upper_of : Entry → Bool
 upper_of e = is_upper (get_or e.letters 0 0) && (is_upper (get_or e.letters 1 0) && is_upper (get_or e.letters 2 0))
@@ -34,5 +32,5 @@ upper_of e = is_upper (get_or e.letters 0 0) && (is_upper (get_or e.letters 1 0)
 -- a line of a name's letters, each in either case, and of what is well-formed is that command
 abbrev pub Reads : Entry → Type 0
 Reads e =
-    (x y z : Bool) (t : List ℕ) (p : Param) → param_of t ≡ reading.Is p →
-    shape_of (cased x (get_or e.letters 0 0) ∷ cased y (get_or e.letters 1 0) ∷ cased z (get_or e.letters 2 0) ∷ t) ≡ shape.Command e.name p
+    (x y z : Bool) (t : List ℕ) (p : Param) → param_of t ≡ Some p →
+    shape_of (cased x (get_or e.letters 0 0) ∷ cased y (get_or e.letters 1 0) ∷ cased z (get_or e.letters 2 0) ∷ t) ≡ Ok (command e.name p)

@@ -1,7 +1,7 @@
 // Bytes to a kept line: where the line stands, one byte after the other.
 // The kept bytes lie with whoever holds the line, so that a byte is stored in place and no array travels.
 ghost use Rattle.std.specs.Prelude.{◌≡◌, ◌<◌};
-ghost use Rattle.line.specs.Line.{most, fresh_pos, ends_of, drops_of, quoted_of, counted_of, moved_of};
+ghost use Rattle.line.specs.Line.{most, Within, fresh_pos, ends_of, drops_of, quoted_of, counted_of, moved_of};
 
 // How many bytes there is room for in a line.
 pub const MOST: usize = 40;
@@ -14,14 +14,21 @@ pub struct Pos {
     pub long: bool,
 }
 
-// What a byte does: the place where it is kept (`MOST`: nowhere), and whether it ended the line.
+// What a byte does: it ends the line, is kept at its place, or is dropped.
+#[derive(Clone, Copy)]
+pub enum Act {
+    Ends,
+    Keeps(usize),
+    Drops,
+}
+
 #[derive(Clone, Copy)]
 pub struct Moved {
     pub pos: Pos,
-    pub at: usize,
-    pub ended: bool,
+    pub act: Act,
 }
 
+// A line that kept nothing. No `Default`: the clause says which place it is.
 pub fn fresh_pos() -> Pos
     ensures { result ≡ fresh_pos }
 {
@@ -32,6 +39,7 @@ pub fn fresh_pos() -> Pos
     }
 }
 
+// `q` and `b` here and below: the quotes before a byte, and the byte. They stay two, as the definitions take them: a state and an input.
 fn ends(q: bool, b: u8) -> bool
     ensures { result ≡ ends_of q b }
 {
@@ -59,10 +67,9 @@ fn stored(p: Pos, b: u8) -> Moved
         pos: Pos {
             len: p.len + 1,
             quoted: quote(p.quoted, b),
-            long: p.long,
+            ..p
         },
-        at: p.len,
-        ended: false,
+        act: Act::Keeps(p.len),
     }
 }
 
@@ -79,34 +86,28 @@ fn counted(p: Pos, b: u8) -> Moved
             quoted: quote(p.quoted, b),
             long: true,
         },
-        at: MOST,
-        ended: false,
+        act: Act::Drops,
     }
 }
 
 // Nearly all bytes neither end a line nor are dropped, whether a quote is open or not: these come first.
 pub fn advance(p: Pos, b: u8) -> Moved
-    ensures { result ≡ moved_of p b }
+    ensures moved { result ≡ moved_of p b }
+    ensures within { Within result.act }
 {
-    if b'"' < b {
-        if b != b';' {
-            if p.len < MOST {
-                return stored(p, b);
-            }
-        }
+    if b'"' < b && b != b';' && p.len < MOST {
+        return stored(p, b);
     }
     if ends(p.quoted, b) {
         return Moved {
             pos: p,
-            at: MOST,
-            ended: true,
+            act: Act::Ends,
         };
     }
     if drops(p.quoted, b) {
         return Moved {
             pos: p,
-            at: MOST,
-            ended: false,
+            act: Act::Drops,
         };
     }
     counted(p, b)

@@ -1,190 +1,113 @@
 // What reads the sample: LDW, LWT, TAR, CDL.
 #![tactic(auto)]
 
-ghost use Rattle.std.specs.Prelude.{◌≡◌, false, ◌≤◌, ◌^◌, nat_abs};
-ghost use Rattle.cases.specs.Pick.{pick};
-ghost use Rattle.whole.specs.Sets.{inside};
-ghost use Rattle.line.specs.Param.{is_number};
-ghost use Rattle.weight.specs.Weight.{as_cell};
-ghost use Rattle.weight.specs.Sets.{cells, spans};
-ghost use Rattle.weight.specs.Zero.{within_share, later_share};
-ghost use Rattle.state.specs.RangedLaws.{Ranged};
-ghost use Rattle.plans.specs.Plans.{curve_given, new_curve, cleared_now, ldw_plan, lwt_plan, tar_plan, cdl_plan};
+ghost use Rattle.std.specs.Prelude.{◌≡◌, None, Some, IfOk, IfErr};
+ghost use Rattle.plans.specs.Needs.{first_failed};
+ghost use Rattle.plans.specs.Plans.{point_needs, point_given, new_curve, ldw_plan, lwt_plan, tar_plan, cdl_plan};
 ghost use Rattle.plans.specs.Obey.{judge};
 ghost use Rattle.plans.specs.ObeyLaws.{answer_of, judged_as};
 
-use line::shape::{Number, Param};
-use plans::Judged;
-use plans::judge::{gate, ill_formed, is_within, judged, rung};
-use state::{Reason, Sealed, Unit, changes};
-use weight::{Cell, Curve, Tenths, sets, zero};
+use line::shape::Param;
+use plans::judge::{marked, need, nothing};
+use state::in_range::InRange;
+use state::{Change, Free, Reason, Sealed, Unit, Zeros, changes};
+use weight::{Cell, Curve, Place, Scale, sets, zero};
 
-fn point_typed(x: Number) -> Cell
-    ensures { result ≡ as_cell x.0 }
+// ---- LDW and LWT
+
+// The number given, or the reading's, which must be steady.
+fn point_given(u: Unit, p: Param) -> Result<Cell, Reason>
+    ensures given { IfOk result (λ x. (first_failed (point_needs u p) ≡ None) × (x ≡ point_given u p)) }
+    ensures lacking { IfErr result (λ why. first_failed (point_needs u p) ≡ Some why) }
 {
-    Cell(x.0)
-}
-
-// ---- LDW
-
-fn ldw_measured(u: Unit, p: Param) -> Judged
-    requires { is_number p ≡ false }
-    ensures { judged_as u result ≡ answer_of (judge u (ldw_plan u p)) }
-{
-    let Param::Nothing = p else {
-        return ill_formed(u);
-    };
-    let seen = u.seen;
-    let why = gate(
-        u.unlocked,
-        u.used.lft == 0,
-        true,
-        rung(weighing::is_steady(seen), Reason::Unsteady, Reason::None),
-    );
-    let next = changes::set_point(u, changes::point_at(weighing::cell_of(seen)));
-    judged(next, false, why)
-}
-
-pub fn on_ldw(u: Unit, p: Param) -> Judged
-    ensures { judged_as u result ≡ answer_of (judge u (ldw_plan u p)) }
-{
-    let Param::Number(x) = p else {
-        return ldw_measured(u, p);
-    };
-    let c = point_typed(x);
-    let why = gate(u.unlocked, u.used.lft == 0, sets::is_cell(c), Reason::None);
-    judged(changes::set_point(u, changes::point_at(c)), false, why)
-}
-
-// ---- LWT
-
-// W in the cell's range and W - L wide enough; L is in that range where the unit is.
-fn spans_in(k: Curve) -> bool
-    requires { nat_abs k.l.0 ≤ 1599999 }
-    ensures { result ≡ pick (inside cells k.w.0) (spans k) false }
-{
-    let ok = sets::is_cell(k.w);
-    if ok { sets::span_ok(k) } else { false }
-}
-
-fn with_curve(q: Sealed, k: Curve, gca: u64) -> Sealed
-    ensures { result ≡ new_curve q k gca }
-{
-    let mut s = q.scale;
-    s.curve = k;
-    s.gca = gca;
-    let mut t = q;
-    t.scale = s;
-    t
-}
-
-fn curve_to(u: Unit, w: Cell) -> Curve
-    ensures { result ≡ curve_given u w }
-{
-    let a = u.point.at;
-    Curve {
-        l: a,
-        w: w,
-        c: u.used.sealed.cwt,
+    match p {
+        Param::Number(n) => {
+            let x = Cell(n.0);
+            marked(u, sets::is_cell(x))?;
+            Ok(x)
+        }
+        Param::Nothing => {
+            marked(u, true)?;
+            need(weighing::is_steady(u.seen), Reason::Unsteady)?;
+            Ok(weighing::cell_of(u.seen))
+        }
+        Param::Query | Param::Text { .. } => Err(Reason::Form),
     }
 }
 
-fn lwt_measured(u: Unit, p: Param) -> Judged
-    requires { Ranged u × (is_number p ≡ false) }
-    ensures { judged_as u result ≡ answer_of (judge u (lwt_plan u p)) }
+#[tactic(auto, unfolding(plans::specs::Obey::judge))]
+pub fn on_ldw(u: Unit, p: Param) -> Result<Change, Reason>
+    ensures { judged_as u result ≡ answer_of (judge u (ldw_plan u p)) }
 {
-    let Param::Nothing = p else {
-        return ill_formed(u);
-    };
-    let seen = u.seen;
-    let k = curve_to(u, weighing::cell_of(seen));
-    let late = rung(
-        u.point.held,
-        Reason::Pointless,
-        rung(sets::span_ok(k), Reason::Value, Reason::None),
-    );
-    let why = gate(
-        u.unlocked,
-        u.used.lft == 0,
-        true,
-        rung(weighing::is_steady(seen), Reason::Unsteady, late),
-    );
-    let q = with_curve(u.used.sealed, k, u.used.sealed.scale.gde);
-    judged(changes::alter(u, q, changes::no_point()), false, why)
+    let x = point_given(u, p)?;
+    Ok(Change::To(changes::set_point(u, changes::point_at(x))))
 }
 
-pub fn on_lwt(u: Unit, p: Param) -> Judged
-    requires { Ranged u }
-    ensures { judged_as u result ≡ answer_of (judge u (lwt_plan u p)) }
+fn with_curve(q: Sealed, curve: Curve, gca: u64) -> Sealed
+    ensures { result ≡ new_curve q curve gca }
 {
-    let Param::Number(x) = p else {
-        return lwt_measured(u, p);
+    Sealed {
+        scale: Scale {
+            curve,
+            gca,
+            ..q.scale
+        },
+        ..q
+    }
+}
+
+// From a reading, GCA is made equal to GDE too.
+#[tactic(auto, unfolding(plans::specs::Obey::judge))]
+pub fn on_lwt(u: InRange, p: Param) -> Result<Change, Reason>
+    ensures { judged_as u.unit result ≡ answer_of (judge u.unit (lwt_plan u.unit p)) }
+{
+    let u = u.unit;
+    let w = point_given(u, p)?;
+    need(u.point.held, Reason::Pointless)?;
+    let curve = Curve {
+        l: u.point.at,
+        w,
+        c: u.used.sealed.cwt,
     };
-    let c = point_typed(x);
-    let k = curve_to(u, c);
-    let late = rung(
-        u.point.held,
-        Reason::Pointless,
-        rung(spans_in(k), Reason::Value, Reason::None),
-    );
-    let why = gate(u.unlocked, u.used.lft == 0, sets::is_cell(c), late);
-    let q = with_curve(u.used.sealed, k, u.used.sealed.scale.gca);
-    judged(changes::alter(u, q, changes::no_point()), false, why)
+    need(sets::span_ok(curve), Reason::Value)?;
+    let gca = match p {
+        Param::Nothing => u.used.sealed.scale.gde,
+        _ => u.used.sealed.scale.gca,
+    };
+    let q = with_curve(u.used.sealed, curve, gca);
+    Ok(Change::To(changes::alter(u, q, changes::no_point())))
 }
 
 // ---- TAR and CDL
 
-pub fn on_tar(u: Unit, p: Param) -> Judged
-    requires { Ranged u }
-    ensures { judged_as u result ≡ answer_of (judge u (tar_plan u p)) }
+#[tactic(auto, unfolding(plans::specs::Obey::judge))]
+pub fn on_tar(u: InRange, p: Param) -> Result<Change, Reason>
+    ensures { judged_as u.unit result ≡ answer_of (judge u.unit (tar_plan u.unit p)) }
 {
-    let Param::Nothing = p else {
-        return ill_formed(u);
-    };
-    let seen = u.seen;
+    nothing(p)?;
+    need(weighing::is_steady(u.unit.seen), Reason::Unsteady)?;
+    need(weighing::gross_place(u) == Place::Within, Reason::Range)?;
     let g = weighing::gross_now(u);
-    let tares = sets::tare_in(u.used.lft, u.used.sealed.scale.nov, g);
-    let late = rung(
-        is_within(weighing::gross_place(u)),
-        Reason::Range,
-        rung(tares, Reason::Range, Reason::None),
-    );
-    let why = rung(weighing::is_steady(seen), Reason::Unsteady, late);
-    let mut f = u.used.free;
-    f.tas = 0;
-    f.tare = g;
-    judged(changes::set_free(u, f), false, why)
-}
-
-fn cleared_now(u: Unit) -> Tenths
-    requires { Ranged u }
-    ensures { result ≡ cleared_now u }
-{
-    weight::less_by(weighing::v_now(u), u.zeros.z0)
-}
-
-fn clears(u: Unit, z: Tenths) -> bool
-    requires { Ranged u × (nat_abs z.0 ≤ 2 ^ 40) }
-    ensures { result ≡ within_share (later_share u.used.lft) u.used.sealed.scale.nov z }
-{
-    zero::within_share(zero::later_share(u.used.lft), u.used.sealed.scale.nov, z)
-}
-
-pub fn on_cdl(u: Unit, p: Param) -> Judged
-    requires { Ranged u }
-    ensures { judged_as u result ≡ answer_of (judge u (cdl_plan u p)) }
-{
-    let Param::Nothing = p else {
-        return ill_formed(u);
+    let tares = sets::tare_in(u.unit.used.lft, u.unit.used.sealed.scale.nov, g);
+    need(tares, Reason::Range)?;
+    let f = Free {
+        tas: 0,
+        tare: g,
+        ..u.unit.used.free
     };
-    let seen = u.seen;
-    let z = cleared_now(u);
-    let why = rung(
-        weighing::is_steady(seen),
-        Reason::Unsteady,
-        rung(clears(u, z), Reason::Range, Reason::None),
-    );
-    let mut y = u.zeros;
-    y.z1 = z;
-    judged(changes::set_zeros(u, y), false, why)
+    Ok(Change::To(changes::set_free(u.unit, f)))
+}
+
+#[tactic(auto, unfolding(plans::specs::Obey::judge))]
+pub fn on_cdl(u: InRange, p: Param) -> Result<Change, Reason>
+    ensures { judged_as u.unit result ≡ answer_of (judge u.unit (cdl_plan u.unit p)) }
+{
+    nothing(p)?;
+    need(weighing::is_steady(u.unit.seen), Reason::Unsteady)?;
+    let z1 = weight::less_by(weighing::v_now(u), u.unit.zeros.z0);
+    let share = zero::later_share(u.unit.used.lft);
+    let near = zero::within_share(share, weighing::limits(u).nov, z1);
+    need(near, Reason::Range)?;
+    let z = Zeros { z1, ..u.unit.zeros };
+    Ok(Change::To(changes::set_zeros(u.unit, z)))
 }

@@ -9,8 +9,7 @@ use Rattle.line.specs.declared.names.Name.{Name}
 use Rattle.line.specs.declared.names.Name.TheVariants as name
 use Rattle.line.specs.declared.shape.Param.{Param}
 use Rattle.line.specs.declared.shape.Param.TheVariants as param
-use Rattle.line.specs.declared.shape.Shape.{Shape}
-use Rattle.line.specs.Shape.{shape_of}
+use Rattle.line.specs.Shape.{shape_of, Shape}
 use Rattle.state.specs.declared.Unit.{Unit as TheUnit}
 use Rattle.state.specs.Settings.{factory_of}
 use Rattle.state.specs.Changes.{ceiling, saved_of, recalled_of, traded_of}

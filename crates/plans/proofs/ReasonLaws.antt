@@ -6,10 +6,8 @@ use Rattle.cases.specs.PickLaws.{split}
 use Rattle.line.specs.declared.names.Name.{Name}
 use Rattle.line.specs.declared.names.Name.TheVariants as name
 use Rattle.line.specs.declared.shape.Param.{Param}
-use Rattle.line.specs.declared.shape.Shape.{Shape}
-use Rattle.line.specs.declared.shape.Shape.TheVariants as shape
 use Rattle.line.specs.declared.cut.Pos.{Pos}
-use Rattle.line.specs.Shape.{shape_of}
+use Rattle.line.specs.Shape.{shape_of, Shape, calls}
 use Rattle.reply.specs.Reply.{refused_text}
 use Rattle.state.specs.declared.Unit.{Unit as TheUnit}
 use Rattle.state.specs.Settings.{factory_of}
@@ -50,13 +48,13 @@ reason_left u s name.Esr q e = refl
 -- a line that is done leaves the reason, but for ESR? and RES
 pub reason_stays : (u : TheUnit) (kept : List ℕ) (p : Pos) →
     ((obey_of u kept p).text ≡ refused_text → ⊥) →
-    ((q : Param) → shape_of (take p.len kept) ≡ shape.Command name.Esr q → ⊥) →
-    ((q : Param) → shape_of (take p.len kept) ≡ shape.Command name.Res q → ⊥) →
+    ((q : Param) → shape_of (take p.len kept) ≡ calls name.Esr q → ⊥) →
+    ((q : Param) → shape_of (take p.len kept) ≡ calls name.Res q → ⊥) →
     (obey_of u kept p).next.reason ≡ u.reason
 reason_stays u kept p =
     line_by (λ (x : Shape) (o : Outcome).
-    (o.text ≡ refused_text → ⊥) → ((q : Param) → x ≡ shape.Command name.Esr q → ⊥) → ((q : Param) → x ≡ shape.Command name.Res q → ⊥) → o.next.reason ≡ u.reason) u
+    (o.text ≡ refused_text → ⊥) → ((q : Param) → x ≡ calls name.Esr q → ⊥) → ((q : Param) → x ≡ calls name.Res q → ⊥) → o.next.reason ≡ u.reason) u
     (λ x n a b c. absurd (a refl))
-    (λ n q e h a b c. query_by (λ m v. (m ≡ name.Esr → ⊥) → v.reason ≡ u.reason) u (λ _ _. refl) (λ z. absurd (z refl)) n (λ z. b q (ap (λ (m : Name). shape.Command m q) z)))
-    (λ s n q e h a b c. reason_left u s n q (λ z. c q (ap (λ (m : Name). shape.Command m q) z)))
+    (λ n q e h a b c. query_by (λ m v. (m ≡ name.Esr → ⊥) → v.reason ≡ u.reason) u (λ _ _. refl) (λ z. absurd (z refl)) n (λ z. b q (ap (λ (m : Name). calls m q) z)))
+    (λ s n q e h a b c. reason_left u s n q (λ z. c q (ap (λ (m : Name). calls m q) z)))
     kept p (λ a b c. refl)

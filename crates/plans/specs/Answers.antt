@@ -1,5 +1,5 @@
 -- A line is done exactly where its reply is not `?`. Assumes nothing.
-use Rattle.std.specs.Prelude.{◌≡◌, refl, ◌⊎◌, Bool, true, false, List, [], ℕ, zero, suc, ◌+◌, ◌%◌, ◌<◌, eqb, ℤ, pos, negsuc, length, get_or, take}
+use Rattle.std.specs.Prelude.{◌≡◌, refl, ◌⊎◌, Bool, true, false, List, [], ℕ, zero, suc, ◌+◌, ◌%◌, ◌<◌, eqb, ℤ, pos, negsuc, length, get_or, take, Ok, Err}
 use Rattle.std.proofs.Common.{sym, ap, subst, ◌∙◌, inl, inr, ⊎_elim, mod-lt, arith, lit<, length-append, ext_get_or, eqb-true}
 use Rattle.std.proofs.lemmas.Bool.{eqb-false}
 use Rattle.cases.specs.TestsLaws.{all_yes}
@@ -10,10 +10,9 @@ use Rattle.line.specs.declared.names.Name.{Name}
 use Rattle.line.specs.declared.names.Name.TheVariants as name
 use Rattle.line.specs.declared.shape.Param.{Param}
 use Rattle.line.specs.declared.shape.Param.TheVariants as param
-use Rattle.line.specs.declared.shape.Shape.{Shape}
-use Rattle.line.specs.declared.shape.Shape.TheVariants as shape
+use Rattle.line.specs.declared.shape.Fault.TheVariants as fault
 use Rattle.line.specs.Param.{is_query, is_nothing}
-use Rattle.line.specs.Shape.{shape_of}
+use Rattle.line.specs.Shape.{shape_of, Shape, calls}
 use Rattle.reply.specs.Reply.{places_of, digits_of, word_of, crlf, refused_text, done_text, digits_text, blank_text, pair_text, signed_text, status_text, word4_text, word2_text}
 use Rattle.reply.proofs.ReadLaws.{length_digits, length_places}
 use Rattle.state.specs.declared.Unit.{Unit as TheUnit}
@@ -123,11 +122,11 @@ done_other u s long =
     (λ _ h. absurd (never (sym h.0))) (λ _. shaped (shape_of s))
   where
     shaped : (x : Shape) → AllHold (shape_plan u s x).needs → Other (shape_plan u s x).text
-    shaped shape.Malformed h = absurd (never (sym h.0))
-    shaped shape.Unknown h = absurd (never (sym h.0))
-    shaped (shape.Command n q) h =
-        split (λ b. AllHold (pick b (query_plan u n) (command_plan u s n q)).needs → Other (pick b (query_plan u n) (command_plan u s n q)).text) (is_query q)
-        (λ _ k. query_other u n) (λ _ k. command_other u s n q) h
+    shaped (Err fault.Malformed) h = absurd (never (sym h.0))
+    shaped (Err fault.Unknown) h = absurd (never (sym h.0))
+    shaped (Ok c) h =
+        split (λ b. AllHold (pick b (query_plan u c.name) (command_plan u s c.name c.param)).needs → Other (pick b (query_plan u c.name) (command_plan u s c.name c.param)).text) (is_query c.param)
+        (λ _ k. query_other u c.name) (λ _ k. command_other u s c.name c.param) h
 
 -- each line was refused, and replied `?`, or was not, and did not
 pub refused_or_not : (u : TheUnit) (kept : List ℕ) (p : Pos) → Refused u (obey_of u kept p) ⊎ Other (obey_of u kept p).text
@@ -148,7 +147,7 @@ refused_first u kept p =
 -- how a line is answered: not at all where it kept nothing or is a done RES, else by `?` or by one reply of a known form
 pub data Answered (u : TheUnit) (p : Pos) (x : Shape) (o : Outcome) : Type 0 where
   empty : p.len ≡ 0 → o.text ≡ [] → Answered u p x o
-  restart : p.long ≡ false → x ≡ shape.Command name.Res param.Nothing → o.next ≡ restarted_of u → o.text ≡ [] → Answered u p x o
+  restart : p.long ≡ false → x ≡ calls name.Res param.Nothing → o.next ≡ restarted_of u → o.text ≡ [] → Answered u p x o
   one : (p.len ≡ 0 → ⊥) → (o.text ≡ refused_text) ⊎ Form o.text → Answered u p x o
 
 nothing_is : (q : Param) → is_nothing q ≡ true → q ≡ param.Nothing
@@ -159,11 +158,11 @@ nothing_is (param.Text a k) e = absurd (never (sym e))
 
 -- of a command whose needs hold
 done_answered : (u : TheUnit) (p : Pos) → p.long ≡ false → (p.len ≡ 0 → ⊥) → (s : List ℕ) (n : Name) (q : Param) → AllHold (command_plan u s n q).needs →
-    Answered u p (shape.Command n q) (done_of (command_plan u s n q))
+    Answered u p (calls n q) (done_of (command_plan u s n q))
 done_answered u p l d s n q h =
     ⊎_elim
     (λ z. let e : q ≡ param.Nothing = nothing_is q (res_needs n z.0 h) in
-    restart l (ap (λ (m : Name). shape.Command m q) z.0 ∙ ap (shape.Command name.Res) e) (ap (λ (m : Name). (command_plan u s m q).done) z.0) z.1)
+    restart l (ap (λ (m : Name). calls m q) z.0 ∙ ap (λ (x : Param). calls name.Res x) e) (ap (λ (m : Name). (command_plan u s m q).done) z.0) z.1)
     (λ c. one d (inr c))
     (command_by (λ m t. ((m ≡ name.Res) × (t ≡ [])) ⊎ Form t) (inl (refl, refl)) (λ _. inr done) u s n q)
   where

@@ -1,12 +1,12 @@
 -- What a line is for the saved settings and the counter: a save, a trade-mode change, or neither. Document 01, "Saving, password, trade mode". What a reader must believe.
-use Rattle.std.specs.Prelude.{Bool, List, [], ◌∷◌, ℕ, eqb, length, get_or}
+use Rattle.std.specs.Prelude.{Bool, List, [], ◌∷◌, ℕ, eqb, length, get_or, Ok, Err}
 use Rattle.cases.specs.Pick.{pick}
 use Rattle.cases.specs.Tests.{all_of}
 use Rattle.line.specs.declared.names.Name.{Name}
 use Rattle.line.specs.declared.names.Name.TheVariants as name
 use Rattle.line.specs.declared.shape.Param.{Param}
-use Rattle.line.specs.declared.shape.Shape.{Shape}
-use Rattle.line.specs.declared.shape.Shape.TheVariants as shape
+use Rattle.line.specs.Shape.{Shape}
+use Rattle.line.specs.declared.shape.Fault.TheVariants as fault
 use Rattle.line.specs.Param.{is_query}
 use Rattle.reply.specs.Reply.{refused_text}
 use Rattle.plans.specs.Plans.{size}
@@ -43,9 +43,9 @@ kind_done lft name.Esr p = plain
 
 -- of a line by its shape: a query is neither
 abbrev pub kind_shape : ℕ → Shape → Kind
-kind_shape lft shape.Malformed = plain
-kind_shape lft shape.Unknown = plain
-kind_shape lft (shape.Command n p) = pick (is_query p) plain (kind_done lft n p)
+kind_shape lft (Err fault.Malformed) = plain
+kind_shape lft (Err fault.Unknown) = plain
+kind_shape lft (Ok c) = pick (is_query c.param) plain (kind_done lft c.name c.param)
 
 -- a reply is `?` CR LF
 abbrev pub refusal_tests : List ℕ → List Bool

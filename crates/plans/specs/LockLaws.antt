@@ -1,5 +1,5 @@
 -- Reason 11, which locks, is SPW's alone. Assumes nothing.
-use Rattle.std.specs.Prelude.{◌≡◌, refl, Bool, true, false, ◌||◌, List, [], ◌∷◌, ◌++◌, ℕ, eqb}
+use Rattle.std.specs.Prelude.{◌≡◌, refl, Bool, true, false, ◌||◌, List, [], ◌∷◌, ◌++◌, ℕ, eqb, Ok, Err}
 use Rattle.std.proofs.Common.{sym, ap, ◌∙◌, eq-eqb}
 use Rattle.cases.specs.Pick.{pick}
 use Rattle.cases.specs.PickLaws.{split, never}
@@ -7,10 +7,9 @@ use Rattle.line.specs.declared.names.Name.{Name}
 use Rattle.line.specs.declared.names.Name.TheVariants as name
 use Rattle.line.specs.declared.shape.Param.{Param}
 use Rattle.line.specs.declared.shape.Param.TheVariants as param
-use Rattle.line.specs.declared.shape.Shape.{Shape}
-use Rattle.line.specs.declared.shape.Shape.TheVariants as shape
+use Rattle.line.specs.declared.shape.Fault.TheVariants as fault
 use Rattle.line.specs.Param.{is_query}
-use Rattle.line.specs.Shape.{shape_of}
+use Rattle.line.specs.Shape.{shape_of, Shape, calls}
 use Rattle.state.specs.declared.Unit.{Unit as TheUnit}
 use Rattle.state.specs.Reasons.{number_of}
 use Rattle.plans.specs.Needs.{Need, Fits, reason_of}
@@ -96,15 +95,15 @@ command_spw u s name.Esr q h = absurd (never (sym h))
 -- the line is SPW
 pub record BySpw (x : Shape) : Type 0 where
   pub param : Param
-  pub is : x ≡ shape.Command name.Spw param
+  pub is : x ≡ calls name.Spw param
 
 shaped_spw : (u : TheUnit) (s : List ℕ) (x : Shape) → eleven (shape_plan u s x).needs ≡ true → BySpw x
-shaped_spw u s shape.Malformed h = absurd (never (sym h))
-shaped_spw u s shape.Unknown h = absurd (never (sym h))
-shaped_spw u s (shape.Command n q) h =
-    split (λ b. eleven (pick b (query_plan u n) (command_plan u s n q)).needs ≡ true → BySpw (shape.Command n q)) (is_query q)
-    (λ _ k. let z : true ≡ false = sym k ∙ query_none u n in absurd (never z))
-    (λ _ k. record { param = q; is = ap (λ (m : Name). shape.Command m q) (command_spw u s n q k) }) h
+shaped_spw u s (Err fault.Malformed) h = absurd (never (sym h))
+shaped_spw u s (Err fault.Unknown) h = absurd (never (sym h))
+shaped_spw u s (Ok c) h =
+    split (λ b. eleven (pick b (query_plan u c.name) (command_plan u s c.name c.param)).needs ≡ true → BySpw (Ok c)) (is_query c.param)
+    (λ _ k. let z : true ≡ false = sym k ∙ query_none u c.name in absurd (never z))
+    (λ _ k. record { param = c.param; is = ap (λ (m : Name). calls m c.param) (command_spw u s c.name c.param k) }) h
 
 pub eleven_by_spw : (u : TheUnit) (s : List ℕ) (long : Bool) (o : Outcome) (w : FirstFails u (line_plan u s long).needs o) → number_of (reason_of w.failing) ≡ 11 → BySpw (shape_of s)
 eleven_by_spw u s long o w e =

@@ -1,5 +1,5 @@
 -- A need: what is looked at, and its bound. Whether it holds, and the reason where it does not, are worked out from it. Document 01, "Reasons for "?"". What a reader must believe.
-use Rattle.std.specs.Prelude.{ℕ, Bool, true, false, ◌||◌, List, [], ◌∷◌, ltb, eqb, ℤ}
+use Rattle.std.specs.Prelude.{Option, Some, None, ℕ, Bool, true, false, ◌||◌, List, [], ◌∷◌, ltb, eqb, ℤ}
 use Rattle.cases.specs.Pick.{pick}
 use Rattle.whole.specs.Sets.{Range as Set, inside}
 use Rattle.weight.specs.declared.Tenths.{Tenths}
@@ -10,7 +10,7 @@ use Rattle.weight.specs.Sets.{spans}
 use Rattle.weight.specs.Zero.{within_share}
 use Rattle.state.specs.declared.Seen.{Seen}
 use Rattle.state.specs.declared.Reason.{Reason}
-use Rattle.state.specs.declared.Reason.TheVariants.{None, Long, Form, Unknown, Locked, Barred, Value, Differs, Unsteady, Pointless, Range, Stands}
+use Rattle.state.specs.declared.Reason.TheVariants.{Long, Form, Unknown, Locked, Barred, Value, Differs, Unsteady, Pointless, Range, Stands}
 use Rattle.weighing.specs.Reading.{steady_of, sampled_of}
 
 pub data Need : Type 0 where
@@ -86,7 +86,7 @@ reason_of (Below n top) = Stands
 reason_of (Spans k) = Value
 reason_of (Unless b n) = reason_of n
 
--- the reason of the first need that does not hold
-abbrev pub first_failed : List Need → Reason
+-- the reason of the first need that does not hold, if one does not
+abbrev pub first_failed : List Need → Option Reason
 first_failed [] = None
-first_failed (n ∷ ns) = pick (holds_of n) (first_failed ns) (reason_of n)
+first_failed (n ∷ ns) = pick (holds_of n) (first_failed ns) (Some (reason_of n))

@@ -1,17 +1,15 @@
 -- A line is judged: the first need that does not hold refuses it, else it is done. Document 01, "Command lines" and "Reasons for "?"". What a reader must believe.
-use Rattle.std.specs.Prelude.{ℕ, ◌≡◌, ◌⊎◌, Bool, true, false, List, [], ◌∷◌, ◌++◌, eqb, take}
+use Rattle.std.specs.Prelude.{Option, Some, None, ℕ, ◌≡◌, ◌⊎◌, Bool, true, false, List, [], ◌∷◌, ◌++◌, eqb, take, Ok, Err}
 use Rattle.cases.specs.Pick.{pick}
 use Rattle.line.specs.declared.cut.Pos.{Pos}
 use Rattle.line.specs.declared.names.Name.{Name}
 use Rattle.line.specs.declared.shape.Param.{Param}
-use Rattle.line.specs.declared.shape.Shape.{Shape}
-use Rattle.line.specs.declared.shape.Shape.TheVariants as shape
+use Rattle.line.specs.declared.shape.Fault.TheVariants as fault
 use Rattle.line.specs.Param.{is_query}
-use Rattle.line.specs.Shape.{shape_of}
+use Rattle.line.specs.Shape.{shape_of, Shape}
 use Rattle.reply.specs.Reply.{refused_text}
 use Rattle.state.specs.declared.Reason.{Reason}
 use Rattle.state.specs.declared.Unit.{Unit as TheUnit}
-use Rattle.state.specs.Reasons.{passes_of}
 use Rattle.state.specs.Changes.{refused_unit}
 use Rattle.plans.specs.Needs.{Need, Fits, Shaped, Known, holds_of, reason_of, first_failed}
 use Rattle.plans.specs.Plans.{Plan, plan, command_plan}
@@ -26,8 +24,9 @@ pub record Outcome : Type 0 where
 abbrev pub refused_of : TheUnit → Reason → Outcome
 refused_of u r = record { next = refused_unit u r; text = refused_text }
 
-abbrev pub settled_of : TheUnit → Plan → Reason → Outcome
-settled_of u p r = pick (passes_of r) (record { next = p.done; text = p.text }) (refused_of u r)
+abbrev pub settled_of : TheUnit → Plan → Option Reason → Outcome
+settled_of u p None = record { next = p.done; text = p.text }
+settled_of u p (Some r) = refused_of u r
 
 unfoldable pub judge : TheUnit → Plan → Outcome
 judge u p = settled_of u p (first_failed p.needs)
@@ -40,9 +39,9 @@ abbrev pub served_plan : TheUnit → List ℕ → Name → Param → Plan
 served_plan u s n p = pick (is_query p) (query_plan u n) (command_plan u s n p)
 
 abbrev pub shape_plan : TheUnit → List ℕ → Shape → Plan
-shape_plan u s shape.Malformed = refusing u (Shaped false)
-shape_plan u s shape.Unknown = refusing u (Known false)
-shape_plan u s (shape.Command n p) = served_plan u s n p
+shape_plan u s (Err fault.Malformed) = refusing u (Shaped false)
+shape_plan u s (Err fault.Unknown) = refusing u (Known false)
+shape_plan u s (Ok c) = served_plan u s c.name c.param
 
 abbrev pub line_plan : TheUnit → List ℕ → Bool → Plan
 line_plan u s long = pick long (refusing u (Fits false)) (shape_plan u s (shape_of s))

@@ -1,5 +1,5 @@
 -- The order in which needs are looked at: that of document 01's table of reasons, with its two exceptions; and what a query may need. Assumes nothing.
-use Rattle.std.specs.Prelude.{◌≡◌, refl, Bool, true, ◌&&◌, List, [], ◌∷◌, ◌++◌, ℕ, leb}
+use Rattle.std.specs.Prelude.{Some, None, ◌≡◌, refl, Bool, true, ◌&&◌, List, [], ◌∷◌, ◌++◌, ℕ, leb}
 use Rattle.std.proofs.Common.{ap}
 use Rattle.cases.specs.Pick.{pick}
 use Rattle.line.specs.declared.names.Name.{Name}
@@ -8,7 +8,7 @@ use Rattle.line.specs.declared.shape.Param.{Param}
 use Rattle.line.specs.declared.shape.Param.TheVariants as param
 use Rattle.state.specs.declared.Seen.{Seen}
 use Rattle.state.specs.declared.Reason.{Reason}
-use Rattle.state.specs.declared.Reason.TheVariants.{None, Long, Form, Unknown, Locked, Barred, Value, Differs, Unsteady, Pointless, Range, Stands}
+use Rattle.state.specs.declared.Reason.TheVariants.{Long, Form, Unknown, Locked, Barred, Value, Differs, Unsteady, Pointless, Range, Stands}
 use Rattle.state.specs.declared.Unit.{Unit as TheUnit}
 use Rattle.weighing.specs.Reading.{sampled_of}
 use Rattle.plans.specs.Needs.{Need, reason_of, first_failed}
@@ -17,7 +17,6 @@ use Rattle.plans.specs.Queries.{query_plan}
 
 -- a reason's row in the table
 abbrev pub row_of : Reason → ℕ
-row_of None = 0
 row_of Long = 1
 row_of Form = 2
 row_of Unknown = 3
@@ -110,6 +109,6 @@ query_free u v name.Res e = refl
 query_free u v name.Tdd e = refl
 query_free u v name.Spw e = refl
 query_free u v name.Dpw e = refl
-query_free u v name.Msv e = ap (λ (x : Seen). pick (sampled_of x) None Unsteady) e
+query_free u v name.Msv e = ap (λ (x : Seen). pick (sampled_of x) None (Some Unsteady)) e
 query_free u v name.Tcr e = refl
 query_free u v name.Esr e = refl

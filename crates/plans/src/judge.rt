@@ -1,112 +1,86 @@
-// Needs as bools, the first that fails, and a command's change kept or refused.
-ghost use Rattle.std.specs.Prelude.{◌≡◌, false};
-ghost use Rattle.cases.specs.Pick.{pick};
+// Needs, looked at in their order: the first that fails refuses the command by its reason. And a command that was judged: done or refused.
+ghost use Rattle.std.specs.Prelude.{◌≡◌, true, false, eqb, None, OnOk, IfErr};
 ghost use Rattle.reply.specs.Reply.{reply_of};
+ghost use Rattle.line.specs.Param.{is_nothing};
 ghost use Rattle.state.specs.declared.Reason.TheVariants.{Form};
-ghost use Rattle.state.specs.Parts.{unchanged_as};
-ghost use Rattle.plans.specs.Needs.{is_within};
 ghost use Rattle.plans.specs.Obey.{refused_of};
-ghost use Rattle.plans.specs.ObeyLaws.{answer_of, spoken_text, judged_as, obeyed_as, size_of, gate_of};
+ghost use Rattle.plans.specs.ObeyLaws.{answer_of, said_of, judged_as, obeyed_as, failed_of, need_of, gate_of, number_typed, value_typed};
 
-use crate::{Judged, Obeyed};
-use line::shape::Number;
+use crate::Obeyed;
+use line::shape::{Number, Param};
 use reply::Reply;
-use state::{Change, Reason, Unit, changes, reasons};
-use weight::Place;
+use state::{Change, Reason, Unit, changes};
+use whole::Whole;
 
-// A number by its sign and size.
-#[derive(Clone, Copy)]
-pub struct Size {
-    pub plus: bool,
-    pub n: u64,
-}
-
-pub fn size_of(x: Number) -> Size
-    ensures { result ≡ size_of x.0 }
+pub fn need(holds: bool, why: Reason) -> Result<(), Reason>
+    ensures ok { OnOk result (holds ≡ true) }
+    ensures err { IfErr result (λ r. (holds ≡ false) × (r ≡ why)) }
 {
-    Size {
-        plus: whole::is_plus(x.0),
-        n: whole::size(x.0),
-    }
-}
-
-// One need: whether it holds, the reason where it does not, and what the needs after it say.
-pub fn rung(holds: bool, why: Reason, rest: Reason) -> Reason
-    ensures { result ≡ pick holds rest why }
-{
-    if holds { rest } else { why }
+    if holds { Ok(()) } else { Err(why) }
 }
 
 // P, S and the value.
-pub fn gate(opened: bool, unsealed: bool, value: bool, rest: Reason) -> Reason
-    ensures { result ≡ gate_of opened unsealed value rest }
+pub fn marked(u: Unit, value: bool) -> Result<(), Reason>
+    ensures { failed_of result ≡ gate_of u.unlocked (eqb u.used.lft 0) value None }
 {
-    if opened {} else {
-        return Reason::Locked;
-    }
-    if unsealed {} else {
-        return Reason::Barred;
-    }
-    if value { rest } else { Reason::Value }
+    need(u.unlocked, Reason::Locked)?;
+    need(u.used.lft == 0, Reason::Barred)?;
+    need(value, Reason::Value)
 }
 
-pub fn is_within(p: Place) -> bool
-    ensures { result ≡ is_within p }
+// The number of a command that takes one, and the same by its sign and size.
+pub fn number(p: Param) -> Result<Number, Reason>
+    ensures { result ≡ number_typed p }
 {
-    match p {
-        Place::Within => true,
-        Place::Over => false,
-        Place::Under => false,
-    }
+    let Param::Number(x) = p else {
+        return Err(Reason::Form);
+    };
+    Ok(x)
 }
 
-pub fn judged(c: Change, silent: bool, why: Reason) -> Judged
-    ensures { result ≡ record { change = c; silent = silent; why = why } }
+pub fn value(p: Param) -> Result<Whole, Reason>
+    ensures { result ≡ value_typed p }
 {
-    Judged {
-        change: c,
-        silent: silent,
-        why: why,
-    }
+    Ok(Whole::from(number(p)?.0))
 }
 
-// A command in a form that it does not have: 02, whatever the unit holds.
-pub fn ill_formed(u: Unit) -> Judged
-    ensures { result ≡ record { change = unchanged_as u; silent = false; why = Form } }
+// Of one that takes nothing.
+pub fn nothing(p: Param) -> Result<(), Reason>
+    ensures { failed_of result ≡ need_of (is_nothing p) Form }
 {
-    judged(changes::unchanged(u), false, Reason::Form)
+    let Param::Nothing = p else {
+        return Err(Reason::Form);
+    };
+    Ok(())
 }
 
 pub fn refused(u: Unit, why: Reason) -> Obeyed
     ensures { obeyed_as u result ≡ answer_of (refused_of u why) }
 {
     Obeyed {
-        change: changes::refuse(u, why),
+        change: Change::To(changes::refuse(u, why)),
         reply: reply::refused(),
     }
 }
 
-// What a done command replies.
-fn spoken(silent: bool) -> Reply
-    ensures { result ≡ reply_of (spoken_text silent) }
+// What a done command replies; one that starts the unit again says nothing.
+fn said(c: Change) -> Reply
+    ensures { result ≡ reply_of (said_of c) }
 {
-    if silent {
-        reply::empty()
-    } else {
-        reply::done()
+    match c {
+        Change::Restart => reply::empty(),
+        Change::To(_) => reply::done(),
     }
 }
 
-pub fn settle(u: Unit, j: Judged) -> Obeyed
-    ensures { obeyed_as u result ≡ judged_as u j }
+pub fn settle(u: Unit, judged: Result<Change, Reason>) -> Obeyed
+    ensures { obeyed_as u result ≡ judged_as u judged }
 {
-    let why = j.why;
-    if reasons::passes(why) {
-        let c = j.change;
-        return Obeyed {
-            change: c,
-            reply: spoken(j.silent),
-        };
+    match judged {
+        Ok(change) => Obeyed {
+            change,
+            reply: said(change),
+        },
+        Err(why) => refused(u, why),
     }
-    refused(u, why)
 }

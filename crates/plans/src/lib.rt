@@ -2,17 +2,9 @@
 #![tactic(auto)]
 
 use reply::Reply;
-use state::{Change, Reason};
+use state::Change;
 
 pub mod judge;
-
-// A command before it is settled: what it changes if it is done, whether it says nothing then, and the first reason against it.
-#[derive(Clone, Copy)]
-pub struct Judged {
-    pub change: Change,
-    pub silent: bool,
-    pub why: Reason,
-}
 
 // What a line changes, and the reply to it.
 #[derive(Clone, Copy)]

@@ -1,4 +1,4 @@
--- A loop that copies a reply to the front of a part of the room. Assumes nothing.
+-- A reply copied to the front of a part of the room, byte by byte. Assumes nothing.
 use Rattle.std.specs.Prelude.{◌≡◌, refl, List, ◌++◌, ℕ, suc, ◌+◌, ◌≤◌, ◌<◌, length, get_or, set, take, drop}
 use Rattle.std.proofs.Common.{sym, ap, ◌∙◌, arith, le_antisymm, add-one, take-append-drop, length-set, length-take, drop-cons, take-suc, length-take-le, lt-ltb, le-ltb}
 use Rattle.std.proofs.lemmas.List.{set_at}

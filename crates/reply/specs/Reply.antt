@@ -1,5 +1,5 @@
 -- Replies: the bytes of each form. Document 01, "Command lines", "Commands" (column "Query gives") and MSV? in "Weight". What a reader must believe.
-use Rattle.std.specs.Prelude.{List, [], ◌∷◌, ◌++◌, map, ℕ, zero, suc, ◌+◌, ◌-◌, ◌/◌, ◌%◌, ◌^◌, length, take, drop, replicate, ltb, ℤ, pos, negsuc, nat_abs}
+use Rattle.std.specs.Prelude.{◌≡◌, refl, List, [], ◌∷◌, ◌++◌, map, ℕ, zero, suc, ◌+◌, ◌-◌, ◌/◌, ◌%◌, ◌^◌, length, take, drop, replicate, ltb, ℤ, pos, negsuc, nat_abs}
 use Rattle.cases.specs.Pick.{pick}
 use Rattle.reply.specs.declared.Reply.{Reply}
 
@@ -53,9 +53,13 @@ refused_text = ended (63 ∷ [])
 unfoldable pub digits_text : ℕ → ℕ → List ℕ
 digits_text w n = ended (digits_of w n)
 
+-- a blank and w digits
+abbrev pub blank_digits : ℕ → ℕ → List ℕ
+blank_digits w n = ended (32 ∷ digits_of w n)
+
 -- GCA?, GDE?: a blank and 6 digits
 unfoldable pub blank_text : ℕ → List ℕ
-blank_text n = ended (32 ∷ digits_of 6 n)
+blank_text n = blank_digits 6 n
 
 -- CWT?: the waiting one and the used one, 7 digits each, parted by a comma
 unfoldable pub pair_text : ℕ → ℕ → List ℕ
@@ -69,12 +73,33 @@ signed_text z = ended (signed_of z)
 unfoldable pub status_text : ℤ → ℕ → ℕ → List ℕ
 status_text z address status = ended (signed_of z ++ 44 ∷ digits_of 2 address ++ 44 ∷ digits_of 3 status)
 
+-- w bytes
+abbrev pub word_text : ℕ → ℤ → List ℕ
+word_text w z = ended (word_of w z)
+
 -- 4 bytes at COF0, 2 at COF2
 unfoldable pub word4_text : ℤ → List ℕ
-word4_text z = ended (word_of 4 z)
+word4_text z = word_text 4 z
 
 unfoldable pub word2_text : ℤ → List ℕ
-word2_text z = ended (word_of 2 z)
+word2_text z = word_text 2 z
+
+-- what the replies of any width are at the widths above; NOV? is a number without a sign
+pub blank_six : (n : ℕ) → blank_digits 6 n ≡ blank_text n
+unfolding blank_text
+blank_six n = refl
+
+pub blank_seven : (n : ℕ) → blank_digits 7 n ≡ signed_text (pos n)
+unfolding signed_text
+blank_seven n = refl
+
+pub word_four : (z : ℤ) → word_text 4 z ≡ word4_text z
+unfolding word4_text
+word_four z = refl
+
+pub word_two : (z : ℤ) → word_text 2 z ≡ word2_text z
+unfolding word2_text
+word_two z = refl
 
 -- ---- a reply as a value
 -- the value that holds the bytes s, zeros behind them

@@ -1,36 +1,64 @@
 // Values to the bytes of a reply, and the writer, which is lent the room from some place on.
 #![tactic(auto)]
 
-ghost use Rattle.std.specs.Prelude.{◌≡◌, [], ◌∷◌, ◌+◌, ◌%◌, length, pos};
-ghost use Rattle.reply.specs.Reply.{reply_of, said, fitting, over, places_of, digits_of, twos, crlf, done_text, refused_text, digits_text, blank_text, pair_text, signed_text, status_text, word4_text, word2_text};
-ghost use Rattle.reply.specs.Push.{pushes, parts_of, sized_of};
+ghost use Rattle.std.specs.Prelude.{◌≡◌, ◌≤◌, [], ◌∷◌, length, nat_abs};
+ghost use Rattle.reply.specs.Reply.{ROOM, reply_of, fitting, over, digits_of, sign_of, crlf, done_text, refused_text, digits_text, blank_digits, pair_text, signed_text, status_text, word_text};
+ghost use Rattle.reply.specs.Push.{pushes};
 
 // The most bytes that a reply has.
 pub const ROOM: usize = 17;
 
-// A reply: the first `len` bytes. The others are zero.
+// A reply: the first `len` bytes. The others are zero. The room is fixed and nothing is on a heap, so the length stands beside the bytes.
 #[derive(Clone, Copy)]
 pub struct Reply {
     pub bytes: [u8; ROOM],
     pub len: usize,
 }
 
-// A signed number that a reply shows.
-#[derive(Clone, Copy)]
-pub struct Shown(pub i64);
+// A reply with more behind it. Each step takes it and hands it on, so that it is built in place.
+impl Reply {
+    // Bytes more, where there is room for all of them: one test and one copy.
+    fn push(self, s: &[u8]) -> Reply
+        requires { length s.now ≤ ROOM }
+        ensures { result ≡ pushes self s.now }
+    {
+        let at = self.len;
+        if ROOM - s.len() < at {
+            return self;
+        }
+        let mut next = self;
+        next.bytes[at..at + s.len()].copy_from_slice(s);
+        next.len = at + s.len();
+        next
+    }
 
-// A signed number taken apart: n, or -1 - n where it is negative. So the least number needs no size of its own.
-#[derive(Clone, Copy)]
-struct Parts {
-    negative: bool,
-    n: u64,
-}
+    // N digits, the last one first; of a number that has more, the last ones. The loop names the places: how much of the number is left goes by them.
+    fn digits<const N: usize>(self, n: u64) -> Reply
+        requires { N ≤ ROOM }
+        ensures { result ≡ pushes self (digits_of N n) }
+    {
+        let mut digits = [0u8; N];
+        let mut rest = n;
+        for i in (0..N).rev() {
+            digits[i] = b'0' + (rest % 10) as u8;
+            rest /= 10;
+        }
+        self.push(&digits)
+    }
 
-// The sign, a blank or '-', and the size.
-#[derive(Clone, Copy)]
-struct Sized {
-    sign: u8,
-    size: u64,
+    // The sign, a blank or '-', and 7 digits of the size.
+    fn signed(self, x: i64) -> Reply
+        ensures { result ≡ pushes (pushes self (sign_of x ∷ [])) (digits_of 7 (nat_abs x)) }
+    {
+        let sign = if x.is_negative() { b'-' } else { b' ' };
+        self.push(&[sign]).digits::<7>(x.unsigned_abs())
+    }
+
+    fn end(self) -> Reply
+        ensures { result ≡ pushes self crlf }
+    {
+        self.push(b"\r\n")
+    }
 }
 
 // No bytes at all: what an empty line and a done RES reply.
@@ -43,274 +71,80 @@ pub fn empty() -> Reply
     }
 }
 
-// Bytes more, where there is room for all of them: one, two, three, and seven digits. One test for several bytes, and no loop over the
-// width, so that a reply is built in place.
-fn push(q: Reply, a: u8) -> Reply
-    ensures { result ≡ pushes q (a ∷ []) }
-{
-    let at = q.len;
-    if ROOM - 1 < at {
-        return q;
-    }
-    let mut next = q;
-    next.bytes[at] = a;
-    next.len = at + 1;
-    next
-}
-
-fn push_2(q: Reply, a: u8, b: u8) -> Reply
-    ensures { result ≡ pushes q (a ∷ b ∷ []) }
-{
-    let at = q.len;
-    if ROOM - 2 < at {
-        return q;
-    }
-    let mut next = q;
-    next.bytes[at] = a;
-    next.bytes[at + 1] = b;
-    next.len = at + 2;
-    next
-}
-
-fn push_3(q: Reply, a: u8, b: u8, c: u8) -> Reply
-    ensures { result ≡ pushes q (a ∷ b ∷ c ∷ []) }
-{
-    let at = q.len;
-    if ROOM - 3 < at {
-        return q;
-    }
-    let mut next = q;
-    next.bytes[at] = a;
-    next.bytes[at + 1] = b;
-    next.bytes[at + 2] = c;
-    next.len = at + 3;
-    next
-}
-
-fn seven(q: Reply, n: u64) -> Reply
-    ensures { result ≡ pushes q (digits_of 7 n) }
-{
-    let at = q.len;
-    if ROOM - 7 < at {
-        return q;
-    }
-    let mut next = q;
-    next.bytes[at] = digit(n / 1000000);
-    next.bytes[at + 1] = digit(n / 100000);
-    next.bytes[at + 2] = digit(n / 10000);
-    next.bytes[at + 3] = digit(n / 1000);
-    next.bytes[at + 4] = digit(n / 100);
-    next.bytes[at + 5] = digit(n / 10);
-    next.bytes[at + 6] = digit(n);
-    next.len = at + 7;
-    next
-}
-
-// The last digit of a number.
-fn digit(n: u64) -> u8
-    ensures { result ≡ 48 + n % 10 }
-{
-    b'0' + ((n % 10) as u8)
-}
-
-// The last two digits, and the last three.
-fn two(q: Reply, n: u64) -> Reply
-    ensures { result ≡ pushes q (digits_of 2 n) }
-{
-    push_2(q, digit(n / 10), digit(n))
-}
-
-fn three(q: Reply, n: u64) -> Reply
-    ensures { result ≡ pushes q (digits_of 3 n) }
-{
-    push_3(q, digit(n / 100), digit(n / 10), digit(n))
-}
-
-// The last two bytes of a number, the high one first.
-fn bytes(q: Reply, v: u64) -> Reply
-    ensures { result ≡ pushes q (places_of 256 2 v) }
-{
-    push_2(q, (v / 256 % 256) as u8, (v % 256) as u8)
-}
-
-fn end(q: Reply) -> Reply
-    ensures { result ≡ pushes q crlf }
-{
-    push_2(q, b'\r', b'\n')
-}
-
-// `-1 - x` is defined at every x below zero, which `-x` is not.
-fn apart(z: Shown) -> Parts
-    ensures { result ≡ parts_of z.0 }
-{
-    let x = z.0;
-    if x < 0 {
-        return Parts {
-            negative: true,
-            n: (-1 - x) as u64,
-        };
-    }
-    Parts {
-        negative: false,
-        n: x as u64,
-    }
-}
-
-// The sign and the size.
-fn size_of(z: Shown) -> Sized
-    ensures { result ≡ sized_of z.0 }
-{
-    let p = apart(z);
-    if p.negative {
-        return Sized {
-            sign: b'-',
-            size: p.n + 1,
-        };
-    }
-    Sized {
-        sign: b' ',
-        size: p.n,
-    }
-}
-
-// Two's complement in four bytes, and in two.
-fn twos_4(z: Shown) -> u64
-    ensures { result ≡ twos 4294967296 z.0 }
-{
-    let p = apart(z);
-    let n = p.n % 4294967296;
-    if p.negative {
-        return 4294967295 - n;
-    }
-    n
-}
-
-fn twos_2(z: Shown) -> u64
-    ensures { result ≡ twos 65536 z.0 }
-{
-    let p = apart(z);
-    let n = p.n % 65536;
-    if p.negative {
-        return 65535 - n;
-    }
-    n
-}
-
-// A fixed reply, its end included.
-fn fixed(s: [u8; 3]) -> Reply
-    ensures { result ≡ reply_of s }
-{
-    push_3(empty(), s[0], s[1], s[2])
-}
-
+// The fixed replies are two functions, for each promises a text of its own: with the byte as a parameter nothing would be shorter.
 pub fn done() -> Reply
     ensures { result ≡ reply_of done_text }
 {
-    fixed(*b"0\r\n")
+    empty().push(b"0\r\n")
 }
 
 pub fn refused() -> Reply
     ensures { result ≡ reply_of refused_text }
 {
-    fixed(*b"?\r\n")
+    empty().push(b"?\r\n")
 }
 
-// 1, 2 and 7 digits; of a number that has more, the last ones, here and below.
-pub fn digits_1(n: u64) -> Reply
-    ensures { result ≡ reply_of (digits_text 1 n) }
+// N digits; of a number that has more, the last ones, here and below. A width is a constant, so that its room is seen where it is written.
+pub fn digits<const N: usize>(n: u64) -> Reply
+    requires { N ≤ 15 }
+    ensures { result ≡ reply_of (digits_text N n) }
 {
-    end(push(empty(), digit(n)))
+    empty().digits::<N>(n).end()
 }
 
-pub fn digits_2(n: u64) -> Reply
-    ensures { result ≡ reply_of (digits_text 2 n) }
+// A number that is held without a sign: GCA? and GDE? with 6 digits, NOV? with 7.
+pub fn blank<const N: usize>(n: u64) -> Reply
+    requires { N ≤ 14 }
+    ensures { result ≡ reply_of (blank_digits N n) }
 {
-    end(two(empty(), n))
-}
-
-pub fn digits_7(n: u64) -> Reply
-    ensures { result ≡ reply_of (digits_text 7 n) }
-{
-    end(seven(empty(), n))
-}
-
-// GCA?, GDE?.
-pub fn blank_6(n: u64) -> Reply
-    ensures { result ≡ reply_of (blank_text n) }
-{
-    end(three(three(push(empty(), b' '), n / 1000), n))
-}
-
-// NOV?: a number that is held without a sign.
-pub fn blank_7(n: u64) -> Reply
-    ensures { result ≡ reply_of (signed_text (pos n)) }
-{
-    end(seven(push(empty(), b' '), n))
+    empty().push(b" ").digits::<N>(n).end()
 }
 
 // CWT?.
 pub fn pair(waiting: u64, used: u64) -> Reply
     ensures { result ≡ reply_of (pair_text waiting used) }
 {
-    end(seven(push(seven(empty(), waiting), b','), used))
+    let first = empty().digits::<7>(waiting);
+    first.push(b",").digits::<7>(used).end()
 }
 
 // LDW?, LWT?, TAV?, and MSV? at COF3.
-pub fn signed(z: Shown) -> Reply
-    ensures { result ≡ reply_of (signed_text z.0) }
+pub fn signed(x: i64) -> Reply
+    ensures { result ≡ reply_of (signed_text x) }
 {
-    let s = size_of(z);
-    end(seven(push(empty(), s.sign), s.size))
+    empty().signed(x).end()
 }
 
 // MSV? at COF9. The address is a parameter: it is 31 until units have one of their own.
-pub fn with_status(z: Shown, address: u64, status: u64) -> Reply
-    ensures { result ≡ reply_of (status_text z.0 address status) }
+pub fn with_status(x: i64, address: u64, status: u64) -> Reply
+    ensures { result ≡ reply_of (status_text x address status) }
 {
-    let s = size_of(z);
-    let shown = seven(push(empty(), s.sign), s.size);
-    let addressed = two(push(shown, b','), address);
-    end(three(push(addressed, b','), status))
+    empty()
+        .signed(x)
+        .push(b",")
+        .digits::<2>(address)
+        .push(b",")
+        .digits::<3>(status)
+        .end()
 }
 
-// MSV? at COF0, and at COF2.
-pub fn word_4(z: Shown) -> Reply
-    ensures { result ≡ reply_of (word4_text z.0) }
+// MSV? with 4 bytes at COF0, and with 2 at COF2.
+pub fn word<const W: usize>(x: i64) -> Reply
+    requires { W ≤ 8 }
+    ensures { result ≡ reply_of (word_text W x) }
 {
-    let v = twos_4(z);
-    end(bytes(bytes(empty(), v / 65536), v))
-}
-
-pub fn word_2(z: Shown) -> Reply
-    ensures { result ≡ reply_of (word2_text z.0) }
-{
-    end(bytes(empty(), twos_2(z)))
-}
-
-// How many bytes a reply says.
-fn count(q: Reply) -> usize
-    ensures { result ≡ length (said q) }
-{
-    let n = q.len;
-    if n < ROOM {
-        return n;
-    }
-    ROOM
+    let bytes = x.to_be_bytes();
+    empty().push(&bytes[8 - W..]).end()
 }
 
 // The reply goes to the front of the part of the room that is lent, and the rest of the part stays; a part that is too short stays whole.
 pub fn put(room: &mut [u8], q: Reply) -> usize
     ensures { (result ≡ length (fitting room.old q)) × (room.new ≡ over (fitting room.old q) room.old) }
 {
-    let n = count(q);
+    let n = q.len.min(ROOM);
     if room.len() < n {
         return 0;
     }
-    let bytes = q.bytes;
-    let mut i: usize = 0;
-    while i < n {
-        room[i] = bytes[i];
-        i += 1;
-    }
+    room[..n].copy_from_slice(&q.bytes[..n]);
     n
 }

@@ -1,7 +1,7 @@
 -- Each way through the loop of `serve` is one turn of the machine, and keeps the unit in range. Assumes nothing.
 use Rattle.std.proofs.Math.Bool.{true, false}
 use Rattle.std.specs.Prelude.{◌≡◌, List, [], ◌++◌, ℕ, ◌+◌, ◌-◌, ◌≤◌, ◌<◌, ltb, length, get_or, set, take, drop}
-use Rattle.std.proofs.Common.{sym, ap, ◌∙◌, arith, Fits, length-take, length-drop, lt-ltb, le-ltb, ltb-false}
+use Rattle.std.proofs.Common.{sym, ap, ◌∙◌, arith, Fits, length-take, length-drop, ltb-false}
 use Rattle.std.specs.Int.{w64}
 use Rattle.cases.specs.Pick.{pick}
 use Rattle.cases.specs.PickLaws.{split}
@@ -9,7 +9,8 @@ use Rattle.cases.specs.Run.{run_of, room_of}
 use Rattle.cases.specs.RunLaws.{Going, going_start, going_on, going_quiet, going_full, going_end, part_put}
 use Rattle.line.specs.declared.cut.Pos.{Pos}
 use Rattle.line.specs.declared.cut.Moved.{Moved}
-use Rattle.line.specs.Line.{none_kept, fresh_pos, moved_of, stored_of}
+use Rattle.line.specs.declared.cut.Act.TheVariants as act
+use Rattle.line.specs.Line.{none_kept, fresh_pos, is_end, moved_of, stored_of}
 use Rattle.reply.specs.Reply.{fitting, over, reply_of}
 use Rattle.reply.proofs.ReadLaws.{fits}
 use Rattle.state.specs.declared.Unit.{Unit as TheUnit}
@@ -34,28 +35,28 @@ lined_ranged u kept p h =
 
 -- a byte within a line, and one that ends it
 module _ (v : TheUnit) (b : ℕ) (f : Moved) (e : f ≡ moved_of v.pos b) where
-  pub step_quiet : f.ended ≡ false → step_text v b ≡ []
+  pub step_quiet : is_end f.act ≡ false → step_text v b ≡ []
   unfolding step_text
-  step_quiet t = let t' : (moved_of v.pos b).ended ≡ false = rw e at t in simp t'
+  step_quiet t = let t' : is_end (moved_of v.pos b).act ≡ false = rw e at t in simp t'
 
-  pub step_moved : f.ended ≡ false → lined v (stored_of v.kept f b) f.pos ≡ step_next v b
+  pub step_moved : is_end f.act ≡ false → lined v (stored_of v.kept f b) f.pos ≡ step_next v b
   unfolding step_next
-  step_moved t = let t' : (moved_of v.pos b).ended ≡ false = rw e at t in simp (t', e)
+  step_moved t = let t' : is_end (moved_of v.pos b).act ≡ false = rw e at t in simp (t', e)
 
-  pub step_ended_text : f.ended ≡ true → step_text v b ≡ (obey_of v v.kept v.pos).text
+  pub step_ended_text : is_end f.act ≡ true → step_text v b ≡ (obey_of v v.kept v.pos).text
   unfolding step_text
-  step_ended_text t = let t' : (moved_of v.pos b).ended ≡ true = rw e at t in simp t'
+  step_ended_text t = let t' : is_end (moved_of v.pos b).act ≡ true = rw e at t in simp t'
 
-  pub step_ended : f.ended ≡ true → step_next v b ≡ ended_unit v
+  pub step_ended : is_end f.act ≡ true → step_next v b ≡ ended_unit v
   unfolding step_next
-  step_ended t = let t' : (moved_of v.pos b).ended ≡ true = rw e at t in simp t'
+  step_ended t = let t' : is_end (moved_of v.pos b).act ≡ true = rw e at t in simp t'
 
 -- a byte keeps the ranges
 pub step_ranged : (u : TheUnit) (b : ℕ) → Ranged u → Ranged (step_next u b)
 unfolding step_next
 step_ranged u b h =
     let m = moved_of u.pos b in
-    split (λ t. Ranged (pick t (ended_unit u) (lined u (stored_of u.kept m b) m.pos))) m.ended
+    split (λ t. Ranged (pick t (ended_unit u) (lined u (stored_of u.kept m b) m.pos))) (is_end m.act)
     (λ _. lined_ranged _ none_kept fresh_pos (obey_ranged u u.kept u.pos h)) (λ _. lined_ranged u _ _ h)
 
 -- and a unit sound
@@ -66,20 +67,8 @@ pub step_sound : (u : TheUnit) (b : ℕ) → sound_of u ≡ true → sound_of (s
 unfolding step_next
 step_sound u b h =
     let m = moved_of u.pos b in
-    split (λ t. sound_of (pick t (ended_unit u) (lined u (stored_of u.kept m b) m.pos)) ≡ true) m.ended
+    split (λ t. sound_of (pick t (ended_unit u) (lined u (stored_of u.kept m b) m.pos)) ≡ true) (is_end m.act)
     (λ _. lined_sound _ none_kept fresh_pos (obey_sound u u.kept u.pos h)) (λ _. lined_sound u _ _ h)
-
-stored_kept : (kept : List ℕ) (f : Moved) (b : ℕ) → f.at < 40 → stored_of kept f b ≡ set kept f.at b
-unfolding stored_of
-stored_kept kept f b h = simp (lt-ltb _ _ h)
-
-stored_long : (kept : List ℕ) (f : Moved) (b : ℕ) → 40 ≤ f.at → f.pos.long ≡ true → stored_of kept f b ≡ none_kept
-unfolding stored_of
-stored_long kept f b h l = simp (le-ltb _ _ h, l)
-
-stored_same : (kept : List ℕ) (f : Moved) (b : ℕ) → 40 ≤ f.at → f.pos.long ≡ false → stored_of kept f b ≡ kept
-unfolding stored_of
-stored_same kept f b h l = simp (le-ltb _ _ h, l)
 
 -- the loop's invariant: the machine goes on, and the unit is in range
 pub record Serving (u : TheUnit) (bytes room₀ room : List ℕ) (v : TheUnit) (i at : ℕ) : Type 0 where
@@ -101,20 +90,23 @@ module _ (u : TheUnit) (bytes room₀ room : List ℕ) (v : TheUnit) (i at : ℕ
       omega (arith, g.going.fits, g.going.long, g.going.small)
 
   module _ (f : Moved) (h : i < length bytes) (k : 17 ≤ length room₀ - at) (e : f ≡ moved_of v.pos (get_or bytes i 0)) where
-    quiet : (kept : List ℕ) → f.ended ≡ false → stored_of v.kept f (get_or bytes i 0) ≡ kept → Serving u bytes room₀ room (lined v kept f.pos) (i + 1) at
+    quiet : (kept : List ℕ) → is_end f.act ≡ false → stored_of v.kept f (get_or bytes i 0) ≡ kept → Serving u bytes room₀ room (lined v kept f.pos) (i + 1) at
     quiet kept t s =
         record { going = going_quiet machine u bytes room₀ room v i at g.going _ h k (step_quiet v _ f e t) (rw (← s) (step_moved v _ f e t)); ranged = lined_ranged v kept f.pos g.ranged }
 
-    pub turn_kept : f.ended ≡ false → f.at < 40 → Serving u bytes room₀ room (lined v (set v.kept f.at (get_or bytes i 0)) f.pos) (i + 1) at
-    turn_kept t a = quiet _ t (stored_kept _ f _ a)
+    pub turn_kept : (k : ℕ) → f.act ≡ act.Keeps k → Serving u bytes room₀ room (lined v (set v.kept k (get_or bytes i 0)) f.pos) (i + 1) at
+    unfolding stored_of
+    turn_kept k t = quiet _ (rw t) (rw t)
 
-    pub turn_long : f.ended ≡ false → 40 ≤ f.at → f.pos.long ≡ true → Serving u bytes room₀ room (lined v none_kept f.pos) (i + 1) at
-    turn_long t a l = quiet _ t (stored_long _ f _ a l)
+    pub turn_long : f.act ≡ act.Drops → f.pos.long ≡ true → Serving u bytes room₀ room (lined v none_kept f.pos) (i + 1) at
+    unfolding stored_of
+    turn_long t l = quiet _ (rw t) (rw (t, l))
 
-    pub turn_same : f.ended ≡ false → 40 ≤ f.at → f.pos.long ≡ false → Serving u bytes room₀ room (lined v v.kept f.pos) (i + 1) at
-    turn_same t a l = quiet _ t (stored_same _ f _ a l)
+    pub turn_same : f.act ≡ act.Drops → f.pos.long ≡ false → Serving u bytes room₀ room (lined v v.kept f.pos) (i + 1) at
+    unfolding stored_of
+    turn_same t l = quiet _ (rw t) (rw (t, l))
 
-    pub turn_ended : (a : Obeyed) (x : TheUnit) (p : Pos) (w : ℕ) (part : List ℕ) → f.ended ≡ true → obeyed_as v a ≡ answer_of (obey_of v v.kept v.pos) →
+    pub turn_ended : (a : Obeyed) (x : TheUnit) (p : Pos) (w : ℕ) (part : List ℕ) → is_end f.act ≡ true → obeyed_as v a ≡ answer_of (obey_of v v.kept v.pos) →
         (w ≡ length (fitting (take (length room - at) (drop at room)) a.reply)) × (part ≡ over (fitting (take (length room - at) (drop at room)) a.reply) (take (length room - at) (drop at room))) →
         x ≡ changed_by v a.change →
         p ≡ fresh_pos →

@@ -2,7 +2,7 @@
 use Rattle.std.specs.Prelude.{List, [], ℕ}
 use Rattle.cases.specs.Pick.{pick}
 use Rattle.line.specs.declared.cut.Moved.{Moved}
-use Rattle.line.specs.Line.{none_kept, fresh_pos, moved_of, stored_of}
+use Rattle.line.specs.Line.{none_kept, fresh_pos, is_end, moved_of, stored_of}
 use Rattle.state.specs.declared.Unit.{Unit as TheUnit}
 use Rattle.state.specs.Changes.{lined}
 use Rattle.plans.specs.Obey.{obey_of}
@@ -16,8 +16,8 @@ abbrev pub ended_unit : TheUnit → TheUnit
 ended_unit u = lined (obey_of u u.kept u.pos).next none_kept fresh_pos
 
 unfoldable pub step_next : TheUnit → ℕ → TheUnit
-step_next u b = pick (moved_of u.pos b).ended (ended_unit u) (moved_unit u (moved_of u.pos b) b)
+step_next u b = pick (is_end (moved_of u.pos b).act) (ended_unit u) (moved_unit u (moved_of u.pos b) b)
 
 -- only an end mark is answered
 unfoldable pub step_text : TheUnit → ℕ → List ℕ
-step_text u b = pick (moved_of u.pos b).ended (obey_of u u.kept u.pos).text []
+step_text u b = pick (is_end (moved_of u.pos b).act) (obey_of u u.kept u.pos).text []

@@ -4,7 +4,7 @@ use Rattle.std.proofs.Common.{lit≤}
 use Rattle.cases.specs.Pick.{pick}
 use Rattle.cases.specs.PickLaws.{split}
 use Rattle.line.specs.declared.cut.Pos.{Pos}
-use Rattle.line.specs.Line.{moved_of}
+use Rattle.line.specs.Line.{is_end, moved_of}
 use Rattle.reply.specs.Reply.{ROOM}
 use Rattle.reply.proofs.ReadLaws.{done_short, refused_short}
 use Rattle.state.specs.declared.Unit.{Unit as TheUnit}
@@ -19,4 +19,4 @@ obey_short u kept p =
 
 pub step_short : (u : TheUnit) (b : ℕ) → length (step_text u b) ≤ ROOM
 unfolding step_text
-step_short u b = split (λ t. length (pick t (obey_of u u.kept u.pos).text []) ≤ ROOM) (moved_of u.pos b).ended (λ _. obey_short u u.kept u.pos) (λ _. lit≤ tt)
+step_short u b = split (λ t. length (pick t (obey_of u u.kept u.pos).text []) ≤ ROOM) (is_end (moved_of u.pos b).act) (λ _. obey_short u u.kept u.pos) (λ _. lit≤ tt)

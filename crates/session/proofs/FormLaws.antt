@@ -1,8 +1,9 @@
 -- What is written as the bench form says is read as what it is, for every x and with any count of leading zeros; and nothing else is. Assumes nothing.
-use Rattle.std.specs.Prelude.{Bool, ◌&&◌, ◌||◌, ◌≡◌, List, [], ◌∷◌, ◌++◌, ℕ, zero, suc, ◌+◌, ◌-◌, ◌*◌, ◌/◌, ◌%◌, ◌^◌, ◌≤◌, ◌<◌, ℤ, pos, negsuc, neg_ℤ, nat_abs, leb, eqb}
+use Rattle.std.specs.Prelude.{Bool, Option, Some, None, ◌&&◌, ◌||◌, ◌≡◌, List, [], ◌∷◌, ◌++◌, ℕ, zero, suc, ◌+◌, ◌-◌, ◌*◌, ◌/◌, ◌%◌, ◌^◌, ◌≤◌, ◌<◌, ℤ, pos, negsuc, neg_ℤ, nat_abs, leb, eqb}
 use Rattle.std.proofs.Math.Bool.{true, false}
 use Rattle.std.proofs.Math.Path.{refl}
 use Rattle.std.proofs.Common.{sym, ap, ◌∙◌, ⊎_elim, arith, pow-suc, mod-lt, div-add-mod', lit<, ne_eqb, le-leb, leb-true, eqb-true, SFits}
+use Rattle.std.proofs.lemmas.Option.{none-some}
 use Rattle.std.specs.Int.{w32}
 use Rattle.cases.specs.Pick.{pick}
 use Rattle.cases.specs.PickLaws.{never, split, bool_cases}
@@ -15,11 +16,11 @@ use Rattle.session.specs.Written.{decimal_in, text_in, sample_line, IsSample, jo
 
 -- ---- read back
 -- a command, whatever its bytes; a restart
-pub command_reads : (t : List ℕ) → (event_of (0x63 ∷ 0x20 ∷ t) ≡ event.Command) × (command_of (0x63 ∷ 0x20 ∷ t) ≡ t)
+pub command_reads : (t : List ℕ) → (event_of (0x63 ∷ 0x20 ∷ t) ≡ Some event.Command) × (command_of (0x63 ∷ 0x20 ∷ t) ≡ t)
 unfolding event_of command_of
 command_reads t = (refl, refl)
 
-pub restart_reads : event_of (0x72 ∷ []) ≡ event.Restart
+pub restart_reads : event_of (0x72 ∷ []) ≡ Some event.Restart
 unfolding event_of
 restart_reads = refl
 
@@ -105,15 +106,15 @@ module _ (s : List ℕ) (d : is_digits s ≡ true) (still : Bool) where
   minus_digits_read = rw words (sample_in_lem (0x2d ∷ s) s true still refl refl d)
 
 module _ (k n : ℕ) (still : Bool) (h : n < 10 ^ k) (l : 1 ≤ k) where
-  pub plus_reads : n ≤ 2147483647 → event_of (sample_line (decimal_in k n) still) ≡ event.Sample (pos n) still
+  pub plus_reads : n ≤ 2147483647 → event_of (sample_line (decimal_in k n) still) ≡ Some (event.Sample (pos n) still)
   plus_reads m = digits_read (decimal_in k n) (decimal_digits k n l) still ∙ rw (decimal_value k n h) (sym (plus_some false n still refl m))
 
   -- -0 among them
-  pub minus_reads : n ≤ 2147483648 → event_of (sample_line (0x2d ∷ decimal_in k n) still) ≡ event.Sample (neg_ℤ (pos n)) still
+  pub minus_reads : n ≤ 2147483648 → event_of (sample_line (0x2d ∷ decimal_in k n) still) ≡ Some (event.Sample (neg_ℤ (pos n)) still)
   minus_reads m = minus_digits_read (decimal_in k n) (decimal_digits k n l) still ∙ rw (decimal_value k n h) (sym (minus_some true n still refl m))
 
 -- every x of signed 32 bits, in any count of digits that it has room in
-pub sample_reads : (x : ℤ) (k : ℕ) (still : Bool) → SFits w32 x → nat_abs x < 10 ^ k → 1 ≤ k → event_of (sample_line (text_in k x) still) ≡ event.Sample x still
+pub sample_reads : (x : ℤ) (k : ℕ) (still : Bool) → SFits w32 x → nat_abs x < 10 ^ k → 1 ≤ k → event_of (sample_line (text_in k x) still) ≡ Some (event.Sample x still)
 sample_reads (pos n) k still f h l = let g : n < 2147483648 = f.sfits in plus_reads k n still h l (omega arith)
 sample_reads (negsuc n) k still f h l = let g : n < 2147483648 = f.sfits in minus_reads k (suc n) still h l (omega arith)
 
@@ -144,17 +145,17 @@ unfolding in_range
 in_range_lem (pos n) e = record { sfits = let h : n ≤ 2147483647 = leb-true n 2147483647 e in omega arith }
 in_range_lem (negsuc n) e = record { sfits = let h : n ≤ 2147483647 = leb-true n 2147483647 (both_yes (leb n 2147483647) true e).0 in omega arith }
 
-sample_is : (z x : ℤ) (f still : Bool) → sample_of z f ≡ event.Sample x still → (z ≡ x) × (f ≡ still) × SFits w32 x
+sample_is : (z x : ℤ) (f still : Bool) → sample_of z f ≡ Some (event.Sample x still) → (z ≡ x) × (f ≡ still) × SFits w32 x
 unfolding sample_of
 sample_is z x f still =
-    split (λ b. pick b (event.Sample z f) event.None ≡ event.Sample x still → (z ≡ x) × (f ≡ still) × SFits w32 x) (in_range z)
+    split (λ b. pick b (Some (event.Sample z f)) None ≡ Some (event.Sample x still) → (z ≡ x) × (f ≡ still) × SFits w32 x) (in_range z)
     (λ e h. let k : z ≡ x = cc in (k, (cc), rw k at (in_range_lem z e)))
-    (λ e h. let n : ◌≡◌ {A = ℕ} 0 1 = cc in absurd (omega arith))
+    (λ e h. absurd (none-some _ h))
 
 -- three words that are read as a sample
 module _ (s w f : List ℕ) (x : ℤ) (still : Bool) where
   three : (is_byte 0x73 s && (is_digits (size_in w) && (is_byte 0x31 f || is_byte 0x30 f))) ≡ true →
-      sample_of (signed_of (has_minus w) (value_from 0 (size_in w))) (is_byte 0x31 f) ≡ event.Sample x still → IsSample (joined s (w ∷ f ∷ [])) x still
+      sample_of (signed_of (has_minus w) (value_from 0 (size_in w))) (is_byte 0x31 f) ≡ Some (event.Sample x still) → IsSample (joined s (w ∷ f ∷ [])) x still
   unfolding joined
   three e h =
       let p = both_yes (is_byte 0x73 s) (is_digits (size_in w) && (is_byte 0x31 f || is_byte 0x30 f)) e in
@@ -162,44 +163,44 @@ module _ (s w f : List ℕ) (x : ℤ) (still : Bool) where
       let k = sample_is (signed_of (has_minus w) (value_from 0 (size_in w))) x (is_byte 0x31 f) still h in
       record { text = w; digits = q.0; value = k.0; range = k.2; whole = rw (byte_is 0x73 s p.0, flag_is f still q.1 k.1) }
 
-words_only : (s : List ℕ) (t : List (List ℕ)) (x : ℤ) (still : Bool) → sample_in s t ≡ event.Sample x still → IsSample (joined s t) x still
+words_only : (s : List ℕ) (t : List (List ℕ)) (x : ℤ) (still : Bool) → sample_in s t ≡ Some (event.Sample x still) → IsSample (joined s t) x still
 unfolding sample_in
-words_only s [] x still h = let n : ◌≡◌ {A = ℕ} 0 1 = cc in absurd (omega arith)
-words_only s (w ∷ []) x still h = let n : ◌≡◌ {A = ℕ} 0 1 = cc in absurd (omega arith)
+words_only s [] x still h = absurd (none-some _ h)
+words_only s (w ∷ []) x still h = absurd (none-some _ h)
 words_only s (w ∷ f ∷ []) x still h =
     split
-    (λ b. (is_byte 0x73 s && (is_digits (size_in w) && (is_byte 0x31 f || is_byte 0x30 f))) ≡ b → pick b (sample_of (signed_of (has_minus w) (value_from 0 (size_in w))) (is_byte 0x31 f)) event.None ≡ event.Sample x still → IsSample (joined s (w ∷ f ∷ [])) x still)
+    (λ b. (is_byte 0x73 s && (is_digits (size_in w) && (is_byte 0x31 f || is_byte 0x30 f))) ≡ b → pick b (sample_of (signed_of (has_minus w) (value_from 0 (size_in w))) (is_byte 0x31 f)) None ≡ Some (event.Sample x still) → IsSample (joined s (w ∷ f ∷ [])) x still)
     (is_byte 0x73 s && (is_digits (size_in w) && (is_byte 0x31 f || is_byte 0x30 f)))
     (λ _ e k. three s w f x still e k)
-    (λ _ e k. let n : ◌≡◌ {A = ℕ} 0 1 = cc in absurd (omega arith))
+    (λ _ e k. absurd (none-some _ k))
     refl
     h
-words_only s (w ∷ f ∷ v ∷ t) x still h = let n : ◌≡◌ {A = ℕ} 0 1 = cc in absurd (omega arith)
+words_only s (w ∷ f ∷ v ∷ t) x still h = absurd (none-some _ h)
 
 -- a line that is read as a sample is one, with that x and that flag
-pub sample_only : (line : List ℕ) (x : ℤ) (still : Bool) → event_of line ≡ event.Sample x still → IsSample line x still
+pub sample_only : (line : List ℕ) (x : ℤ) (still : Bool) → event_of line ≡ Some (event.Sample x still) → IsSample line x still
 unfolding event_of
 sample_only line x still =
-    split (λ b. pick b event.Command (pick (is_byte 0x72 line) event.Restart (sample_in (words_of line).first (words_of line).others)) ≡ event.Sample x still → IsSample line x still) (is_command line)
+    split (λ b. pick b (Some event.Command) (pick (is_byte 0x72 line) (Some event.Restart) (sample_in (words_of line).first (words_of line).others)) ≡ Some (event.Sample x still) → IsSample line x still) (is_command line)
     (λ e h. let n : ◌≡◌ {A = ℕ} 0 1 = cc in absurd (omega arith))
-    (λ e. split (λ b. pick b event.Restart (sample_in (words_of line).first (words_of line).others) ≡ event.Sample x still → IsSample line x still) (is_byte 0x72 line)
+    (λ e. split (λ b. pick b (Some event.Restart) (sample_in (words_of line).first (words_of line).others) ≡ Some (event.Sample x still) → IsSample line x still) (is_byte 0x72 line)
     (λ k h. let n : ◌≡◌ {A = ℕ} 0 1 = cc in absurd (omega arith))
     (λ k h. rw (joined_words line) at (words_only (words_of line).first (words_of line).others x still h)))
 
 -- words alone make no command and no restart
-abbrev weighs : Event → Bool
-weighs event.None = true
-weighs event.Command = false
-weighs (event.Sample x still) = true
-weighs event.Restart = false
+abbrev weighs : Option Event → Bool
+weighs None = true
+weighs (Some event.Command) = false
+weighs (Some (event.Sample x still)) = true
+weighs (Some event.Restart) = false
 
-pick_weighs : (b : Bool) (e : Event) → weighs e ≡ true → weighs (pick b e event.None) ≡ true
+pick_weighs : (b : Bool) (e : Option Event) → weighs e ≡ true → weighs (pick b e None) ≡ true
 pick_weighs true e h = h
 pick_weighs false e h = refl
 
 sample_weighs : (z : ℤ) (f : Bool) → weighs (sample_of z f) ≡ true
 unfolding sample_of
-sample_weighs z f = pick_weighs (in_range z) (event.Sample z f) refl
+sample_weighs z f = pick_weighs (in_range z) (Some (event.Sample z f)) refl
 
 words_weigh : (s : List ℕ) (t : List (List ℕ)) → weighs (sample_in s t) ≡ true
 unfolding sample_in
@@ -210,14 +211,14 @@ words_weigh s (w ∷ f ∷ []) =
 words_weigh s (w ∷ f ∷ v ∷ t) = refl
 
 -- what a line is, by what its event is
-module _ (c r : Bool) (e : Event) (w : weighs e ≡ true) where
-  command_test : pick c event.Command (pick r event.Restart e) ≡ event.Command → c ≡ true
-  command_test = split (λ b. pick b event.Command (pick r event.Restart e) ≡ event.Command → b ≡ true) c (λ k h. refl)
-      (λ k. split (λ b. pick b event.Restart e ≡ event.Command → false ≡ true) r (λ l h. cc) (λ l h. sym (ap weighs h) ∙ w))
+module _ (c r : Bool) (e : Option Event) (w : weighs e ≡ true) where
+  command_test : pick c (Some event.Command) (pick r (Some event.Restart) e) ≡ Some event.Command → c ≡ true
+  command_test = split (λ b. pick b (Some event.Command) (pick r (Some event.Restart) e) ≡ Some event.Command → b ≡ true) c (λ k h. refl)
+      (λ k. split (λ b. pick b (Some event.Restart) e ≡ Some event.Command → false ≡ true) r (λ l h. cc) (λ l h. sym (ap weighs h) ∙ w))
 
-  restart_test : pick c event.Command (pick r event.Restart e) ≡ event.Restart → r ≡ true
-  restart_test = split (λ b. pick b event.Command (pick r event.Restart e) ≡ event.Restart → r ≡ true) c (λ k h. let n : ◌≡◌ {A = ℕ} 0 1 = cc in absurd (omega arith))
-      (λ k. split (λ b. pick b event.Restart e ≡ event.Restart → b ≡ true) r (λ l h. refl) (λ l h. sym (ap weighs h) ∙ w))
+  restart_test : pick c (Some event.Command) (pick r (Some event.Restart) e) ≡ Some event.Restart → r ≡ true
+  restart_test = split (λ b. pick b (Some event.Command) (pick r (Some event.Restart) e) ≡ Some event.Restart → r ≡ true) c (λ k h. cc)
+      (λ k. split (λ b. pick b (Some event.Restart) e ≡ Some event.Restart → b ≡ true) r (λ l h. refl) (λ l h. sym (ap weighs h) ∙ w))
 
 command_is : (line : List ℕ) → is_command line ≡ true → line ≡ 0x63 ∷ 0x20 ∷ command_of line
 unfolding command_of
@@ -225,10 +226,10 @@ command_is [] e = absurd (never (sym e))
 command_is (a ∷ []) e = absurd (never (sym e))
 command_is (a ∷ b ∷ t) e = let p = both_yes (eqb a 0x63) (eqb b 0x20) e in rw (eqb-true a 0x63 p.0, eqb-true b 0x20 p.1)
 
-pub command_only : (line : List ℕ) → event_of line ≡ event.Command → line ≡ 0x63 ∷ 0x20 ∷ command_of line
+pub command_only : (line : List ℕ) → event_of line ≡ Some event.Command → line ≡ 0x63 ∷ 0x20 ∷ command_of line
 unfolding event_of
 command_only line h = command_is line (command_test (is_command line) (is_byte 0x72 line) (sample_in (words_of line).first (words_of line).others) (words_weigh (words_of line).first (words_of line).others) h)
 
-pub restart_only : (line : List ℕ) → event_of line ≡ event.Restart → line ≡ 0x72 ∷ []
+pub restart_only : (line : List ℕ) → event_of line ≡ Some event.Restart → line ≡ 0x72 ∷ []
 unfolding event_of
 restart_only line h = byte_is 0x72 line (restart_test (is_command line) (is_byte 0x72 line) (sample_in (words_of line).first (words_of line).others) (words_weigh (words_of line).first (words_of line).others) h)

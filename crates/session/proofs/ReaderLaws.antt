@@ -1,5 +1,5 @@
 -- The reader makes of a line what `Form` says of the line (`line_made`), and hands on the bytes of a command and no others (`line_handed`). Assumes nothing.
-use Rattle.std.specs.Prelude.{Bool, ◌&&◌, ◌||◌, ◌≡◌, ◌⊎◌, ℕ, ◌+◌, ◌-◌, ◌*◌, ◌<◌, eqb, ltb}
+use Rattle.std.specs.Prelude.{Bool, Option, Some, None, ◌&&◌, ◌||◌, ◌≡◌, ◌⊎◌, ℕ, ◌+◌, ◌-◌, ◌*◌, ◌<◌, eqb, ltb}
 use Rattle.std.proofs.Math.Bool.{true, false}
 use Rattle.std.proofs.Math.Path.{refl, sym, ap}
 use Rattle.std.proofs.Common.{◌∙◌, inl, inr, ⊎_elim, arith, ltb-true, lt-ltb, eqb-true}
@@ -20,10 +20,10 @@ either : {A : Type 0} (t : Bool) → (t ≡ true → A) → (t ≡ false → A) 
 either t f g = ⊎_elim f g (bool_cases t)
 
 -- what is made of the bytes `t` from a state on
-abbrev pub made : State → List ℕ → Event
+abbrev pub made : State → List ℕ → Option Event
 made s t = ended_of (state_after s t)
 
-hopeless : (t : List ℕ) → made state.Hopeless t ≡ event.None
+hopeless : (t : List ℕ) → made state.Hopeless t ≡ None
 unfolding state_after
 hopeless [] = refl
 hopeless (b ∷ t) = hopeless t
@@ -49,24 +49,24 @@ agree_sample : (n : Bool) (v w : ℕ) (f : Bool) → Agree v w → sample_of (si
 agree_sample n v w f h = ⊎_elim (λ e. rw e) (λ p. sym (beyond n v f p.0) ∙ beyond n w f p.1) h
 
 -- ---- what is left of a sample's words: after x and its blank, and after a minus or none and digits whose value is `w`
-abbrev flag_in : Bool → ℕ → List ℕ → List (List ℕ) → Event
-flag_in n w f [] = pick (is_byte 0x31 f || is_byte 0x30 f) (sample_of (signed_of n w) (is_byte 0x31 f)) event.None
-flag_in n w f (v ∷ t) = event.None
+abbrev flag_in : Bool → ℕ → List ℕ → List (List ℕ) → Option Event
+flag_in n w f [] = pick (is_byte 0x31 f || is_byte 0x30 f) (sample_of (signed_of n w) (is_byte 0x31 f)) None
+flag_in n w f (v ∷ t) = None
 
-abbrev number_in : Bool → ℕ → List ℕ → List (List ℕ) → Event
-number_in n w x [] = event.None
-number_in n w x (f ∷ t) = pick (all_digits x) (flag_in n (value_from w x) f t) event.None
+abbrev number_in : Bool → ℕ → List ℕ → List (List ℕ) → Option Event
+number_in n w x [] = None
+number_in n w x (f ∷ t) = pick (all_digits x) (flag_in n (value_from w x) f t) None
 
-abbrev sized_in : Bool → List ℕ → List (List ℕ) → Event
-sized_in n [] t = event.None
+abbrev sized_in : Bool → List ℕ → List (List ℕ) → Option Event
+sized_in n [] t = None
 sized_in n (a ∷ x) t = number_in n 0 (a ∷ x) t
 
 -- ---- the flag
-flag_two : (n : Bool) (w a b : ℕ) (f : List ℕ) (t : List (List ℕ)) → flag_in n w (a ∷ b ∷ f) t ≡ event.None
+flag_two : (n : Bool) (w a b : ℕ) (f : List ℕ) (t : List (List ℕ)) → flag_in n w (a ∷ b ∷ f) t ≡ None
 flag_two n w a b f [] = refl
 flag_two n w a b f (v ∷ t) = refl
 
-flag_long : (n : Bool) (w a b : ℕ) (t : List ℕ) → flag_in n w (words_of (a ∷ b ∷ t)).first (words_of (a ∷ b ∷ t)).others ≡ event.None
+flag_long : (n : Bool) (w a b : ℕ) (t : List ℕ) → flag_in n w (words_of (a ∷ b ∷ t)).first (words_of (a ∷ b ∷ t)).others ≡ None
 unfolding words_of
 flag_long n w a b t =
     either (eqb a 0x20)
@@ -78,17 +78,16 @@ unfolding flag_of
 flag_last d a b = either (eqb a 0x31) (λ e. rw e) (λ e. either (eqb a 0x30) (λ k. rw (e, k)) (λ k. rw (e, k)))
 
 -- the sign that a state holds
-sign_back : (n : Bool) → eqb (pick n 1 0) 1 ≡ n
-sign_back true = refl
-sign_back false = refl
+sign_back : (n : Bool) (v : ℕ) → (decimal n v).minus ≡ n
+sign_back n v = refl
 
 module _ (n : Bool) (v w : ℕ) (h : Agree v w) where
-  flag_one : (a : ℕ) → ended_of (flag_of (decimal n v) a) ≡ pick (eqb a 0x31 || eqb a 0x30) (sample_of (signed_of n w) (eqb a 0x31)) event.None
+  flag_one : (a : ℕ) → ended_of (flag_of (decimal n v) a) ≡ pick (eqb a 0x31 || eqb a 0x30) (sample_of (signed_of n w) (eqb a 0x31)) None
   unfolding flag_of
   flag_one a =
       either (eqb a 0x31)
-      (λ e. rw (e, sign_back n) (agree_sample n v w true h))
-      (λ e. either (eqb a 0x30) (λ k. rw (e, k, sign_back n) (agree_sample n v w false h)) (λ k. rw (e, k)))
+      (λ e. rw e (agree_sample n v w true h))
+      (λ e. either (eqb a 0x30) (λ k. rw (e, k) (agree_sample n v w false h)) (λ k. rw (e, k)))
 
   flag_made : (t : List ℕ) → made (state.Blank (decimal n v)) t ≡ flag_in n w (words_of t).first (words_of t).others
   unfolding state_after words_of flag_of
@@ -105,7 +104,7 @@ unfolding all_digits value_from
 digit_in n w a x [] e = refl
 digit_in n w a x (f ∷ t) e = rw e
 
-digit_out : (n : Bool) (w a : ℕ) (x : List ℕ) (t : List (List ℕ)) → is_digit a ≡ false → number_in n w (a ∷ x) t ≡ event.None
+digit_out : (n : Bool) (w a : ℕ) (x : List ℕ) (t : List (List ℕ)) → is_digit a ≡ false → number_in n w (a ∷ x) t ≡ None
 unfolding all_digits
 digit_out n w a x [] e = refl
 digit_out n w a x (f ∷ t) e = rw e
@@ -152,9 +151,9 @@ unfolding sample_in
 sample_sized n x [] [] p q = refl
 sample_sized n x (a ∷ y) [] p q = refl
 sample_sized n x [] (f ∷ []) p q = rw q
-sample_sized n x (a ∷ y) (f ∷ []) p q = rw (p, q) (pick_and (all_digits (a ∷ y)) (is_byte 0x31 f || is_byte 0x30 f) (sample_of (signed_of n (value_from 0 (a ∷ y))) (is_byte 0x31 f)) event.None)
+sample_sized n x (a ∷ y) (f ∷ []) p q = rw (p, q) (pick_and (all_digits (a ∷ y)) (is_byte 0x31 f || is_byte 0x30 f) (sample_of (signed_of n (value_from 0 (a ∷ y))) (is_byte 0x31 f)) None)
 sample_sized n x [] (f ∷ g ∷ t) p q = refl
-sample_sized n x (a ∷ y) (f ∷ g ∷ t) p q = sym (pick_same (all_digits (a ∷ y)) event.None)
+sample_sized n x (a ∷ y) (f ∷ g ∷ t) p q = sym (pick_same (all_digits (a ∷ y)) None)
 
 no_minus : (a : ℕ) (t : List ℕ) → eqb a 0x2d ≡ false →
     sample_in (0x73 ∷ []) ((words_of (a ∷ t)).first ∷ (words_of (a ∷ t)).others) ≡ sized_in false (words_of (a ∷ t)).first (words_of (a ∷ t)).others
@@ -176,7 +175,7 @@ x_made (a ∷ t) = either (eqb a 0x2d) (λ e. minus (eqb-true a 0x2d e)) plus
     plus e = rw e (start_made false a t ∙ sym (no_minus a t e))
 
 -- ---- the first letter
-not_sample : (s : List ℕ) (t : List (List ℕ)) → is_byte 0x73 s ≡ false → sample_in s t ≡ event.None
+not_sample : (s : List ℕ) (t : List (List ℕ)) → is_byte 0x73 s ≡ false → sample_in s t ≡ None
 unfolding sample_in
 not_sample s [] e = refl
 not_sample s (x ∷ []) e = refl
@@ -187,14 +186,14 @@ not_byte : (k a : ℕ) (t : List ℕ) → eqb a k ≡ false → is_byte k (a ∷
 not_byte k a [] e = e
 not_byte k a (b ∷ t) e = refl
 
-other_letter : (a : ℕ) (t : List ℕ) → eqb a 0x73 ≡ false → sample_in (words_of (a ∷ t)).first (words_of (a ∷ t)).others ≡ event.None
+other_letter : (a : ℕ) (t : List ℕ) → eqb a 0x73 ≡ false → sample_in (words_of (a ∷ t)).first (words_of (a ∷ t)).others ≡ None
 unfolding words_of
 other_letter a t e =
     either (eqb a 0x20)
     (λ k. rw k (not_sample [] ((words_of t).first ∷ (words_of t).others) refl))
     (λ k. rw k (not_sample (a ∷ (words_of t).first) (words_of t).others (not_byte 0x73 a (words_of t).first e)))
 
-command_made : (t : List ℕ) → made state.Command t ≡ event.Command
+command_made : (t : List ℕ) → made state.Command t ≡ Some event.Command
 unfolding state_after
 command_made [] = refl
 command_made (b ∷ t) = command_made t
@@ -204,16 +203,16 @@ r_last a b = either (eqb a 0x72) (λ e. rw e) (λ e. rw e)
 
 -- a line of one byte
 module _ (a : ℕ) where
-  one_is : ended_of (first_of a) ≡ pick (eqb a 0x72) event.Restart event.None
+  one_is : ended_of (first_of a) ≡ pick (eqb a 0x72) (Some event.Restart) None
   unfolding first_of
   one_is =
       either (eqb a 0x63) (λ e. rw (eqb-true a 0x63 e)) (λ e. either (eqb a 0x73) (λ k. rw (eqb-true a 0x73 k)) (λ k. rw (e, k) (ends (eqb a 0x72))))
     where
-      ends : (t : Bool) → ended_of (pick t state.R state.Hopeless) ≡ pick t event.Restart event.None
+      ends : (t : Bool) → ended_of (pick t state.R state.Hopeless) ≡ pick t (Some event.Restart) None
       ends true = refl
       ends false = refl
 
-  one_word : sample_in (words_of (a ∷ [])).first (words_of (a ∷ [])).others ≡ event.None
+  one_word : sample_in (words_of (a ∷ [])).first (words_of (a ∷ [])).others ≡ None
   unfolding words_of sample_in
   one_word = either (eqb a 0x20) (λ e. rw e) (λ e. rw e)
 
@@ -238,7 +237,7 @@ module _ (a b : ℕ) (t : List ℕ) where
 pub line_made : (line : List ℕ) → made state.Start line ≡ event_of line
 unfolding state_after event_of words_of sample_in
 line_made [] = refl
-line_made (a ∷ []) = one_is a ∙ ap (λ e. pick (eqb a 0x72) event.Restart e) (sym (one_word a))
+line_made (a ∷ []) = one_is a ∙ ap (λ e. pick (eqb a 0x72) (Some event.Restart) e) (sym (one_word a))
 line_made (a ∷ b ∷ t) =
     either (eqb a 0x63) (λ e. from_c a b t (eqb-true a 0x63 e)) (λ e. either (eqb a 0x73) (λ k. from_s a b t (eqb-true a 0x73 k)) (from_other a b t e))
 
@@ -253,14 +252,7 @@ abbrev quiet : State → Bool
 quiet state.Start = false
 quiet state.C = false
 quiet state.Command = false
-quiet state.S = true
-quiet state.X = true
-quiet state.Minus = true
-quiet (state.Digits d) = true
-quiet (state.Blank d) = true
-quiet (state.Flag d f) = true
-quiet state.R = true
-quiet state.Hopeless = true
+quiet _ = true
 
 quiet_pick : (t : Bool) (a b : State) → quiet a ≡ true → quiet b ≡ true → quiet (pick t a b) ≡ true
 quiet_pick true a b h k = h
@@ -272,9 +264,6 @@ quiet_digit d b = quiet_pick (is_digit b) (state.Digits (record { minus = d.minu
 
 quiet_next : (s : State) (b : ℕ) → quiet s ≡ true → quiet (next_of s b) ≡ true
 unfolding sign_of more_of flag_of
-quiet_next state.Start b h = absurd (never (sym h))
-quiet_next state.C b h = absurd (never (sym h))
-quiet_next state.Command b h = absurd (never (sym h))
 quiet_next state.S b h = quiet_pick (eqb b 0x20) state.X state.Hopeless refl refl
 quiet_next state.X b h = quiet_pick (eqb b 0x2d) state.Minus (digit_of (decimal false 0) b) refl (quiet_digit (decimal false 0) b)
 quiet_next state.Minus b h = quiet_digit (decimal true 0) b
@@ -283,19 +272,11 @@ quiet_next (state.Blank d) b h = quiet_pick (eqb b 0x31) (state.Flag d true) (on
 quiet_next (state.Flag d f) b h = refl
 quiet_next state.R b h = refl
 quiet_next state.Hopeless b h = refl
+quiet_next _ b h = absurd (never (sym h))
 
 quiet_pass : (s : State) → quiet s ≡ true → pass_of s ≡ false
-quiet_pass state.Start h = refl
-quiet_pass state.C h = refl
 quiet_pass state.Command h = sym h
-quiet_pass state.S h = refl
-quiet_pass state.X h = refl
-quiet_pass state.Minus h = refl
-quiet_pass (state.Digits d) h = refl
-quiet_pass (state.Blank d) h = refl
-quiet_pass (state.Flag d f) h = refl
-quiet_pass state.R h = refl
-quiet_pass state.Hopeless h = refl
+quiet_pass _ h = refl
 
 quiet_none : (t : List ℕ) (s : State) → quiet s ≡ true → handed_on s t ≡ []
 unfolding handed_on

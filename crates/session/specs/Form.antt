@@ -1,6 +1,6 @@
 -- A line of the bench form, as the list of its bytes without the LF. Document 01, "Readings and replies to hold to", the paragraph on the
 -- bench program. What a reader must believe.
-use Rattle.std.specs.Prelude.{Bool, true, false, ◌&&◌, ◌||◌, List, [], ◌∷◌, ℕ, ◌+◌, ◌-◌, ◌*◌, ℤ, pos, neg_ℤ, leb, eqb}
+use Rattle.std.specs.Prelude.{Bool, true, false, Option, Some, None, ◌&&◌, ◌||◌, List, [], ◌∷◌, ℕ, ◌+◌, ◌-◌, ◌*◌, ℤ, pos, neg_ℤ, leb, eqb}
 use Rattle.std.specs.Int.Signed.{le_z}
 use Rattle.cases.specs.Pick.{pick}
 use Rattle.session.specs.declared.Event.{Event}
@@ -56,18 +56,18 @@ signed_of negative n = pick negative (neg_ℤ (pos n)) (pos n)
 unfoldable pub in_range : ℤ → Bool
 in_range x = le_z (neg_ℤ (pos 2147483648)) x && le_z x (pos 2147483647)
 
-unfoldable pub sample_of : ℤ → Bool → Event
-sample_of x still = pick (in_range x) (event.Sample x still) event.None
+unfoldable pub sample_of : ℤ → Bool → Option Event
+sample_of x still = pick (in_range x) (Some (event.Sample x still)) None
 
 -- three words and no more: `s`, x, and 0 or 1
-unfoldable pub sample_in : List ℕ → List (List ℕ) → Event
-sample_in s [] = event.None
-sample_in s (x ∷ []) = event.None
+unfoldable pub sample_in : List ℕ → List (List ℕ) → Option Event
+sample_in s [] = None
+sample_in s (x ∷ []) = None
 sample_in s (x ∷ f ∷ []) =
     pick (is_byte 0x73 s && (is_digits (size_in x) && (is_byte 0x31 f || is_byte 0x30 f)))
     (sample_of (signed_of (has_minus x) (value_from 0 (size_in x))) (is_byte 0x31 f))
-    event.None
-sample_in s (x ∷ f ∷ w ∷ t) = event.None
+    None
+sample_in s (x ∷ f ∷ w ∷ t) = None
 
 -- `c` blank and any bytes, or none
 abbrev pub is_command : List ℕ → Bool
@@ -76,10 +76,10 @@ is_command (a ∷ []) = false
 is_command (a ∷ b ∷ t) = eqb a 0x63 && eqb b 0x20
 
 -- a command, `r` alone, a sample, or no such form
-unfoldable pub event_of : List ℕ → Event
+unfoldable pub event_of : List ℕ → Option Event
 event_of line =
-    pick (is_command line) event.Command
-    (pick (is_byte 0x72 line) event.Restart
+    pick (is_command line) (Some event.Command)
+    (pick (is_byte 0x72 line) (Some event.Restart)
     (sample_in (words_of line).first (words_of line).others))
 
 -- the bytes of a command, which the unit takes; of any other line none

@@ -1,5 +1,5 @@
 -- The reader that takes a line byte by byte: its states and steps. `ReaderLaws` has that what it makes of a line is what `Form` says of the line.
-use Rattle.std.specs.Prelude.{Bool, true, false, List, [], ◌∷◌, ℕ, ◌+◌, ◌-◌, ◌*◌, eqb, ltb}
+use Rattle.std.specs.Prelude.{Bool, true, false, Option, Some, None, List, [], ◌∷◌, ℕ, ◌+◌, ◌-◌, ◌*◌, eqb, ltb}
 use Rattle.cases.specs.Pick.{pick}
 use Rattle.session.specs.declared.Decimal.{Decimal}
 use Rattle.session.specs.declared.State.{State}
@@ -10,7 +10,7 @@ use Rattle.session.specs.declared.Event.TheVariants as event
 use Rattle.session.specs.Form.{is_digit, signed_of, sample_of}
 
 abbrev pub decimal : Bool → ℕ → Decimal
-decimal negative size = record { minus = pick negative 1 0; size = size }
+decimal negative size = record { minus = negative; size = size }
 
 -- one digit more; a size beyond every x stays as it is, however many digits follow
 unfoldable pub grown_of : ℕ → ℕ → ℕ
@@ -43,40 +43,27 @@ next_of state.X b = sign_of b
 next_of state.Minus b = digit_of (decimal true 0) b
 next_of (state.Digits d) b = more_of d b
 next_of (state.Blank d) b = flag_of d b
-next_of (state.Flag d f) b = state.Hopeless
-next_of state.R b = state.Hopeless
-next_of state.Hopeless b = state.Hopeless
+next_of _ b = state.Hopeless
+
+-- bytes of the line were read
+abbrev pub begun_of : State → Bool
+begun_of state.Start = false
+begun_of _ = true
 
 -- the bytes of a command alone are handed on
 abbrev pub pass_of : State → Bool
-pass_of state.Start = false
-pass_of state.C = false
 pass_of state.Command = true
-pass_of state.S = false
-pass_of state.X = false
-pass_of state.Minus = false
-pass_of (state.Digits d) = false
-pass_of (state.Blank d) = false
-pass_of (state.Flag d f) = false
-pass_of state.R = false
-pass_of state.Hopeless = false
+pass_of _ = false
 
 abbrev pub stepped_of : State → ℕ → Stepped
 stepped_of s b = record { next = next_of s b; pass = pass_of s }
 
 -- the line ends
-abbrev pub ended_of : State → Event
-ended_of state.Start = event.None
-ended_of state.C = event.None
-ended_of state.Command = event.Command
-ended_of state.S = event.None
-ended_of state.X = event.None
-ended_of state.Minus = event.None
-ended_of (state.Digits d) = event.None
-ended_of (state.Blank d) = event.None
-ended_of (state.Flag d f) = sample_of (signed_of (eqb d.minus 1) d.size) f
-ended_of state.R = event.Restart
-ended_of state.Hopeless = event.None
+abbrev pub ended_of : State → Option Event
+ended_of state.Command = Some event.Command
+ended_of (state.Flag d f) = sample_of (signed_of d.minus d.size) f
+ended_of state.R = Some event.Restart
+ended_of _ = None
 
 -- a line's bytes, one after the other: the state after them, and the bytes that were handed on
 unfoldable pub state_after : State → List ℕ → State

@@ -35,17 +35,8 @@ stretch_more s from i h k =
 
 -- a command's bytes go on to the line's end
 pass_stays : (s : State) (b : ℕ) → pass_of s ≡ true → pass_of (next_of s b) ≡ true
-pass_stays state.Start b h = absurd (never (sym h))
-pass_stays state.C b h = absurd (never (sym h))
 pass_stays state.Command b h = refl
-pass_stays state.S b h = absurd (never (sym h))
-pass_stays state.X b h = absurd (never (sym h))
-pass_stays state.Minus b h = absurd (never (sym h))
-pass_stays (state.Digits d) b h = absurd (never (sym h))
-pass_stays (state.Blank d) b h = absurd (never (sym h))
-pass_stays (state.Flag d f) b h = absurd (never (sym h))
-pass_stays state.R b h = absurd (never (sym h))
-pass_stays state.Hopeless b h = absurd (never (sym h))
+pass_stays _ b h = absurd (never (sym h))
 
 -- ---- where a walk from `at` stands at `i`: the state is that of the bytes between, none of them is LF, and those from `from` on are handed on
 pub record Walked (s : State) (buf : List ℕ) (at : ℕ) (now : State) (from i : ℕ) : Type 0 where

@@ -2,17 +2,26 @@
 use Rattle.std.specs.Prelude.{◌≡◌, refl, Bool, false}
 use Rattle.cases.specs.Pick.{pick}
 use Rattle.cases.specs.PickLaws.{split}
+use Rattle.state.specs.declared.Parts.{Parts}
 use Rattle.state.specs.declared.Change.{Change}
+use Rattle.state.specs.declared.Change.TheVariants as change
+use Rattle.state.specs.declared.Settings.{Settings}
+use Rattle.state.specs.declared.Point.{Point}
 use Rattle.state.specs.declared.Unit.{Unit as TheUnit}
-use Rattle.state.specs.Changes.{restarted_of}
+use Rattle.state.specs.Changes.{no_zeros, restarted_of}
 
 -- nothing is changed
-abbrev pub unchanged_as : TheUnit → Change
+abbrev pub unchanged_as : TheUnit → Parts
 unchanged_as u =
-    record { used = u.used; zeros = u.zeros; point = u.point; password = u.password; counter = u.counter; reason = u.reason; unlocked = u.unlocked; saves = false; restarts = false }
+    record { used = u.used; zeros = u.zeros; point = u.point; password = u.password; counter = u.counter; reason = u.reason; unlocked = u.unlocked; saves = false }
 
--- the unit that a change leaves where it does not restart: line and sample stay
-abbrev parts_of : TheUnit → Change → TheUnit
+-- other settings in use, and no zeros
+abbrev pub reset_as : TheUnit → Settings → Point → Parts
+reset_as u s p =
+    record { used = s; zeros = no_zeros false; point = p; password = u.password; counter = u.counter; reason = u.reason; unlocked = u.unlocked; saves = false }
+
+-- the unit that its parts make: line and sample stay
+abbrev pub parts_of : TheUnit → Parts → TheUnit
 parts_of u c =
     record {
       kept = u.kept;
@@ -29,11 +38,11 @@ parts_of u c =
     }
 
 -- the unit that a change leaves
-unfoldable pub changed_by : TheUnit → Change → TheUnit
-changed_by u c = pick c.restarts (restarted_of u) (parts_of u c)
+abbrev pub changed_by : TheUnit → Change → TheUnit
+changed_by u change.Restart = restarted_of u
+changed_by u (change.To c) = parts_of u c
 
-pub unchanged_is : (u : TheUnit) → changed_by u (unchanged_as u) ≡ u
-unfolding changed_by
+pub unchanged_is : (u : TheUnit) → parts_of u (unchanged_as u) ≡ u
 unchanged_is u = refl
 
 pub changed_pick : (u : TheUnit) (b : Bool) (x y : Change) → changed_by u (pick b x y) ≡ pick b (changed_by u x) (changed_by u y)

@@ -1,11 +1,10 @@
 // The changes, with nothing decided: what a done command or a refusal changes, and the unit that it or an event leaves.
 ghost use Rattle.std.specs.Prelude.{◌≡◌};
-ghost use Rattle.cases.specs.Pick.{pick};
-ghost use Rattle.state.specs.Parts.{unchanged_as, changed_by};
+ghost use Rattle.state.specs.Parts.{unchanged_as, reset_as, parts_of, changed_by};
 ghost use Rattle.state.specs.Changes.{no_zeros, no_point, point_at, grossed, sighted, worded, gated, altered_of, resealed_of, freed_of, zeroed_of, pointed_of, saved_of, recalled_of, next_count, traded_of, started_of, restarted_of, new_unit, refused_unit};
 
 use crate::{
-    Change, Free, Password, Point, Reason, Sealed, Seen, Settings, Unit, Zeros, reasons, table,
+    Change, Free, Parts, Password, Point, Reason, Sealed, Seen, Settings, Unit, Zeros, table,
 };
 use line::cut;
 use weight::{Cell, Digits, Tenths};
@@ -16,7 +15,7 @@ pub fn no_zeros(waits: bool) -> Zeros
     Zeros {
         z0: Tenths(0),
         z1: Tenths(0),
-        waits: waits,
+        waits,
     }
 }
 
@@ -38,105 +37,106 @@ pub fn point_at(x: Cell) -> Point
 fn gross_shown(f: Free) -> Free
     ensures { result ≡ grossed f }
 {
-    let none = Digits(0);
-    let mut g = f;
-    g.tas = 1;
-    g.tare = none;
-    g
+    Free {
+        tas: 1,
+        tare: Digits(0),
+        ..f
+    }
 }
 
 // ---- what commands change
 
-// A command that changes nothing, and what every other begins from.
-pub fn unchanged(u: Unit) -> Change
+// The parts as they stand: what every change begins from.
+pub fn unchanged(u: Unit) -> Parts
     ensures { result ≡ unchanged_as u }
 {
-    let s = u.used;
-    let z = u.zeros;
-    let p = u.point;
-    let w = u.password;
-    Change {
-        used: s,
-        zeros: z,
-        point: p,
-        password: w,
+    Parts {
+        used: u.used,
+        zeros: u.zeros,
+        point: u.point,
+        password: u.password,
         counter: u.counter,
         reason: u.reason,
         unlocked: u.unlocked,
         saves: false,
-        restarts: false,
     }
 }
 
-pub fn alter(u: Unit, q: Sealed, p: Point) -> Change
-    ensures { changed_by u result ≡ altered_of u q p }
+// Other settings in use, and no zeros.
+fn reset(u: Unit, used: Settings, point: Point) -> Parts
+    ensures { result ≡ reset_as u used point }
 {
-    let f = gross_shown(u.used.free);
-    let none = no_zeros(false);
-    let mut s = u.used;
-    s.sealed = q;
-    s.free = f;
-    let mut c = unchanged(u);
-    c.used = s;
-    c.zeros = none;
-    c.point = p;
-    c
+    Parts {
+        used,
+        zeros: no_zeros(false),
+        point,
+        ..unchanged(u)
+    }
 }
 
-pub fn reseal(u: Unit, q: Sealed) -> Change
-    ensures { changed_by u result ≡ resealed_of u q }
+pub fn alter(u: Unit, q: Sealed, p: Point) -> Parts
+    ensures { parts_of u result ≡ altered_of u q p }
 {
-    let mut s = u.used;
-    s.sealed = q;
-    let mut c = unchanged(u);
-    c.used = s;
-    c
+    let used = Settings {
+        sealed: q,
+        lft: u.used.lft,
+        free: gross_shown(u.used.free),
+    };
+    reset(u, used, p)
 }
 
-pub fn set_free(u: Unit, f: Free) -> Change
-    ensures { changed_by u result ≡ freed_of u f }
+pub fn reseal(u: Unit, q: Sealed) -> Parts
+    ensures { parts_of u result ≡ resealed_of u q }
 {
-    let mut s = u.used;
-    s.free = f;
-    let mut c = unchanged(u);
-    c.used = s;
-    c
+    Parts {
+        used: Settings {
+            sealed: q,
+            ..u.used
+        },
+        ..unchanged(u)
+    }
 }
 
-pub fn set_zeros(u: Unit, z: Zeros) -> Change
-    ensures { changed_by u result ≡ zeroed_of u z }
+pub fn set_free(u: Unit, f: Free) -> Parts
+    ensures { parts_of u result ≡ freed_of u f }
 {
-    let mut c = unchanged(u);
-    c.zeros = z;
-    c
+    Parts {
+        used: Settings { free: f, ..u.used },
+        ..unchanged(u)
+    }
 }
 
-pub fn set_point(u: Unit, p: Point) -> Change
-    ensures { changed_by u result ≡ pointed_of u p }
+pub fn set_zeros(u: Unit, z: Zeros) -> Parts
+    ensures { parts_of u result ≡ zeroed_of u z }
 {
-    let mut c = unchanged(u);
-    c.point = p;
-    c
+    Parts {
+        zeros: z,
+        ..unchanged(u)
+    }
 }
 
-pub fn save(u: Unit) -> Change
-    ensures { changed_by u result ≡ saved_of u }
+pub fn set_point(u: Unit, p: Point) -> Parts
+    ensures { parts_of u result ≡ pointed_of u p }
 {
-    let mut saving = unchanged(u);
-    saving.saves = true;
-    saving
+    Parts {
+        point: p,
+        ..unchanged(u)
+    }
 }
 
-pub fn recall(u: Unit, s: Settings) -> Change
-    ensures { changed_by u result ≡ recalled_of u s }
+pub fn save(u: Unit) -> Parts
+    ensures { parts_of u result ≡ saved_of u }
 {
-    let z = no_zeros(false);
-    let p = no_point();
-    let mut c = unchanged(u);
-    c.used = s;
-    c.zeros = z;
-    c.point = p;
-    c
+    Parts {
+        saves: true,
+        ..unchanged(u)
+    }
+}
+
+pub fn recall(u: Unit, s: Settings) -> Parts
+    ensures { parts_of u result ≡ recalled_of u s }
+{
+    reset(u, s, no_point())
 }
 
 fn next_count(c: u64) -> u64
@@ -145,97 +145,66 @@ fn next_count(c: u64) -> u64
     if c < 9_999_999 { c + 1 } else { 9_999_999 }
 }
 
-pub fn trade(u: Unit, n: u64) -> Change
-    ensures { changed_by u result ≡ traded_of u n }
+pub fn trade(u: Unit, n: u64) -> Parts
+    ensures { parts_of u result ≡ traded_of u n }
 {
-    let k = next_count(u.counter);
-    let f = gross_shown(u.used.free);
-    let z = no_zeros(false);
-    let p = no_point();
-    let mut s = u.used;
-    s.lft = n;
-    s.free = f;
-    let mut c = unchanged(u);
-    c.used = s;
-    c.zeros = z;
-    c.point = p;
-    c.counter = k;
-    c.saves = true;
-    c
+    let used = Settings {
+        sealed: u.used.sealed,
+        lft: n,
+        free: gross_shown(u.used.free),
+    };
+    let mut p = reset(u, used, no_point());
+    p.counter = next_count(u.counter);
+    p.saves = true;
+    p
 }
 
-pub fn set_lock(u: Unit, lock: bool) -> Change
-    ensures { changed_by u result ≡ gated u lock u.reason }
+pub fn set_lock(u: Unit, lock: bool) -> Parts
+    ensures { parts_of u result ≡ gated u lock u.reason }
 {
-    let mut c = unchanged(u);
-    c.unlocked = lock;
-    c
+    Parts {
+        unlocked: lock,
+        ..unchanged(u)
+    }
 }
 
-pub fn set_reason(u: Unit, n: u64) -> Change
-    ensures { changed_by u result ≡ gated u u.unlocked n }
+pub fn set_reason(u: Unit, n: u64) -> Parts
+    ensures { parts_of u result ≡ gated u u.unlocked n }
 {
-    let mut c = unchanged(u);
-    c.reason = n;
-    c
+    Parts {
+        reason: n,
+        ..unchanged(u)
+    }
 }
 
-pub fn set_password(u: Unit, w: Password) -> Change
-    ensures { changed_by u result ≡ worded u w }
+pub fn set_password(u: Unit, w: Password) -> Parts
+    ensures { parts_of u result ≡ worded u w }
 {
-    let mut c = unchanged(u);
-    c.password = w;
-    c
+    Parts {
+        password: w,
+        ..unchanged(u)
+    }
 }
 
-pub fn start_again(u: Unit) -> Change
-    ensures { changed_by u result ≡ restarted_of u }
+pub fn refuse(u: Unit, why: Reason) -> Parts
+    ensures { parts_of u result ≡ refused_unit u why }
 {
-    let mut c = unchanged(u);
-    c.restarts = true;
-    c
-}
-
-pub fn refuse(u: Unit, why: Reason) -> Change
-    ensures { changed_by u result ≡ refused_unit u why }
-{
-    let n = reasons::reason_number(why);
-    let mut c = unchanged(u);
-    c.unlocked = (n != 11) & u.unlocked;
-    c.reason = n;
-    c
-}
-
-pub fn pick_change(b: bool, x: Change, y: Change) -> Change
-    ensures { result ≡ pick b x y }
-{
-    if b { x } else { y }
+    Parts {
+        reason: u64::from(why),
+        unlocked: (why != Reason::Differs) && u.unlocked,
+        ..unchanged(u)
+    }
 }
 
 // ---- units
 
-// What is seen is an enum, so the unit is written anew.
 pub fn see(u: Unit, s: Seen, z: Zeros) -> Unit
     ensures { result ≡ sighted u s z }
 {
-    let kept = u.kept;
-    let pos = u.pos;
-    let used = u.used;
-    let saved = u.saved;
-    let point = u.point;
-    let password = u.password;
     Unit {
-        kept: kept,
-        pos: pos,
-        used: used,
-        saved: saved,
-        zeros: z,
         seen: s,
-        point: point,
-        unlocked: u.unlocked,
-        password: password,
-        counter: u.counter,
-        reason: u.reason,
+        zeros: z,
+        ..u
     }
 }
 
@@ -243,20 +212,17 @@ pub fn see(u: Unit, s: Seen, z: Zeros) -> Unit
 fn started(saved: Settings, password: Password, counter: u64, waits: bool) -> Unit
     ensures { result ≡ started_of saved password counter waits }
 {
-    let pos = cut::fresh_pos();
-    let z = no_zeros(waits);
-    let p = no_point();
     Unit {
-        kept: [0u8; 40],
-        pos: pos,
+        kept: [0u8; cut::MOST],
+        pos: cut::fresh_pos(),
         used: saved,
-        saved: saved,
-        zeros: z,
+        saved,
+        zeros: no_zeros(waits),
         seen: Seen::Nothing,
-        point: p,
+        point: no_point(),
         unlocked: false,
-        password: password,
-        counter: counter,
+        password,
+        counter,
         reason: 0,
     }
 }
@@ -264,16 +230,14 @@ fn started(saved: Settings, password: Password, counter: u64, waits: bool) -> Un
 pub fn restart(u: Unit) -> Unit
     ensures { result ≡ restarted_of u }
 {
-    let s = u.saved;
-    let w = u.password;
-    started(s, w, u.counter, 0 < u.saved.sealed.zse)
+    started(u.saved, u.password, u.counter, 0 < u.saved.sealed.zse)
 }
 
 pub fn new_unit() -> Unit
     ensures { result ≡ new_unit }
 {
     let w = Password {
-        bytes: [b'A', b'E', b'D', 0, 0, 0, 0],
+        bytes: *b"AED\0\0\0\0",
         len: 3,
     };
     started(table::factory(), w, 0, false)
@@ -283,23 +247,18 @@ pub fn new_unit() -> Unit
 pub fn made(u: Unit, c: Change) -> Unit
     ensures { result ≡ changed_by u c }
 {
-    if c.restarts {
+    let Change::To(p) = c else {
         return restart(u);
+    };
+    Unit {
+        used: p.used,
+        saved: if p.saves { p.used } else { u.saved },
+        zeros: p.zeros,
+        point: p.point,
+        unlocked: p.unlocked,
+        password: p.password,
+        counter: p.counter,
+        reason: p.reason,
+        ..u
     }
-    let s = c.used;
-    let z = c.zeros;
-    let p = c.point;
-    let w = c.password;
-    let mut v = u;
-    if c.saves {
-        v.saved = s;
-    }
-    v.used = s;
-    v.zeros = z;
-    v.point = p;
-    v.password = w;
-    v.counter = c.counter;
-    v.reason = c.reason;
-    v.unlocked = c.unlocked;
-    v
 }

@@ -1,126 +1,73 @@
 // The settings' value sets, their factory values, and a setting changed.
 ghost use Rattle.std.specs.Prelude.{◌≡◌};
 ghost use Rattle.whole.specs.Sets.{has};
-ghost use Rattle.state.specs.Settings.{codes, switches, modes, formats, set_of, scale_with, with_scale, put, with_cwt, factory_of};
+ghost use Rattle.state.specs.Settings.{codes, switches, modes, formats, set_of, put, with_cwt, factory_of};
 
 use crate::{Free, Sealed, Setting, Settings};
 use weight::{Cell, Curve, Digits, Scale, sets};
+use whole::Whole;
 
-pub fn is_code(plus: bool, n: u64) -> bool
-    ensures { result ≡ has codes plus n }
+// Each set stands once, under its name in document 01.
+pub fn is_code(x: Whole) -> bool
+    ensures { result ≡ has codes x.plus x.n }
 {
-    whole::is_between(plus, n, 0, 4)
+    x.is_between(0, 4)
 }
 
-pub fn is_switch(plus: bool, n: u64) -> bool
-    ensures { result ≡ has switches plus n }
+pub fn is_switch(x: Whole) -> bool
+    ensures { result ≡ has switches x.plus x.n }
 {
-    whole::is_between(plus, n, 0, 1)
+    x.is_between(0, 1)
 }
 
-pub fn is_mode(plus: bool, n: u64) -> bool
-    ensures { result ≡ has modes plus n }
+// LFT's values: a set of its own in document 01, though it has the codes' numbers now.
+pub fn is_mode(x: Whole) -> bool
+    ensures { result ≡ has modes x.plus x.n }
 {
-    whole::is_between(plus, n, 0, 4)
+    x.is_between(0, 4)
 }
 
-pub fn is_format(plus: bool, n: u64) -> bool
-    ensures { result ≡ has formats plus n }
+pub fn is_format(x: Whole) -> bool
+    ensures { result ≡ has formats x.plus x.n }
 {
-    plus & ((n == 0) | (n == 2) | (n == 3) | (n == 9))
+    x.plus & matches!(x.n, 0 | 2 | 3 | 9)
 }
 
 // What the command of a setting takes.
-pub fn takes(k: Setting, plus: bool, n: u64) -> bool
-    ensures { result ≡ has (set_of k) plus n }
+pub fn takes(k: Setting, x: Whole) -> bool
+    ensures { result ≡ has (set_of k) x.plus x.n }
 {
     match k {
-        Setting::Gca => sets::is_gravity(plus, n),
-        Setting::Gde => sets::is_gravity(plus, n),
-        Setting::Nov => sets::is_nominal(plus, n),
-        Setting::Rsn => sets::is_step(plus, n),
-        Setting::Enu => is_code(plus, n),
-        Setting::Dpt => is_code(plus, n),
-        Setting::Zse => is_code(plus, n),
-        Setting::Ztr => is_switch(plus, n),
+        Setting::Gca | Setting::Gde => sets::is_gravity(x),
+        Setting::Nov => sets::is_nominal(x),
+        Setting::Rsn => sets::is_step(x),
+        Setting::Enu | Setting::Dpt | Setting::Zse => is_code(x),
+        Setting::Ztr => is_switch(x),
     }
 }
 
-fn with_scale(q: Sealed, s: Scale) -> Sealed
-    ensures { result ≡ with_scale q s }
-{
-    let mut t = q;
-    t.scale = s;
-    t
-}
-
-pub fn put_gca(q: Sealed, n: u64) -> Sealed
-    ensures { result ≡ with_scale q (scale_with q.scale n q.scale.gde q.scale.nov q.scale.rsn) }
-{
-    let mut s = q.scale;
-    s.gca = n;
-    with_scale(q, s)
-}
-
-fn put_gde(q: Sealed, n: u64) -> Sealed
-    ensures { result ≡ with_scale q (scale_with q.scale q.scale.gca n q.scale.nov q.scale.rsn) }
-{
-    let mut s = q.scale;
-    s.gde = n;
-    with_scale(q, s)
-}
-
-fn put_nov(q: Sealed, n: u64) -> Sealed
-    ensures { result ≡ with_scale q (scale_with q.scale q.scale.gca q.scale.gde n q.scale.rsn) }
-{
-    let mut s = q.scale;
-    s.nov = n;
-    with_scale(q, s)
-}
-
-fn put_rsn(q: Sealed, n: u64) -> Sealed
-    ensures { result ≡ with_scale q (scale_with q.scale q.scale.gca q.scale.gde q.scale.nov n) }
-{
-    let mut s = q.scale;
-    s.rsn = n;
-    with_scale(q, s)
-}
-
-// A setting changed. One that is not the scale's is changed here.
+// A setting changed.
 pub fn with_setting(k: Setting, q: Sealed, n: u64) -> Sealed
     ensures { result ≡ put k q n }
 {
     let mut t = q;
     match k {
-        Setting::Gca => put_gca(q, n),
-        Setting::Gde => put_gde(q, n),
-        Setting::Nov => put_nov(q, n),
-        Setting::Rsn => put_rsn(q, n),
-        Setting::Enu => {
-            t.enu = n;
-            t
-        }
-        Setting::Dpt => {
-            t.dpt = n;
-            t
-        }
-        Setting::Zse => {
-            t.zse = n;
-            t
-        }
-        Setting::Ztr => {
-            t.ztr = n;
-            t
-        }
+        Setting::Gca => t.scale.gca = n,
+        Setting::Gde => t.scale.gde = n,
+        Setting::Nov => t.scale.nov = n,
+        Setting::Rsn => t.scale.rsn = n,
+        Setting::Enu => t.enu = n,
+        Setting::Dpt => t.dpt = n,
+        Setting::Zse => t.zse = n,
+        Setting::Ztr => t.ztr = n,
     }
+    t
 }
 
 pub fn with_cwt(q: Sealed, n: u64) -> Sealed
     ensures { result ≡ with_cwt q n }
 {
-    let mut t = q;
-    t.cwt = n;
-    t
+    Sealed { cwt: n, ..q }
 }
 
 pub fn factory() -> Settings

@@ -2,14 +2,15 @@
 #![tactic(auto)]
 
 ghost use Rattle.std.specs.Prelude.{◌≡◌};
-ghost use Rattle.state.specs.RangedLaws.{Ranged};
-ghost use Rattle.weighing.specs.Reading.{seen_at, seen_of, cell_of, steady_of, sampled_of, v_now, g_now, gross_now, net_now, place_at, gross_place, place_now, value_now, shown_now, read_at, read_by, reading_of};
+ghost use Rattle.weighing.specs.Reading.{seen_at, seen_of, cell_of, steady_of, sampled_of, v_now, g_now, gross_now, net_now, place_at, gross_place, place_now, value_now, shown_now, read_at, reading_of};
 ghost use Rattle.weighing.specs.Samples.{first_now, tracked_now, zeros_now, sample_of};
 
+use state::in_range::InRange;
 use state::{Seen, Unit, Zeros, changes};
-use weight::{Cell, Digits, Place, Shown, Tenths, display, zero};
+use weight::{Cell, Digits, Limits, Place, Shown, Tenths, display, zero};
 
-// What the display has: nothing since the restart, over, under, or the weight with what is shown of it; each with its steadiness.
+// What the display has: nothing since the restart, over, under, or the weight with what is shown of it; each with its steadiness. A host tells
+// four cases apart, and by one match.
 #[derive(Clone, Copy)]
 pub enum Reading {
     Nothing,
@@ -33,7 +34,7 @@ fn seen_at(p: Place, x: Cell, still: bool) -> Seen
 fn seen_of(x: i32, still: bool) -> Seen
     ensures { result ≡ seen_of x still }
 {
-    let c = weight::from_cell(x);
+    let c = Cell::from(x);
     seen_at(display::cell_place(c), c, still)
 }
 
@@ -41,10 +42,8 @@ pub fn cell_of(s: Seen) -> Cell
     ensures { result ≡ cell_of s }
 {
     match s {
-        Seen::Nothing => Cell(0),
-        Seen::Over => Cell(0),
-        Seen::Under => Cell(0),
-        Seen::Number(x, still) => x,
+        Seen::Nothing | Seen::Over | Seen::Under => Cell(0),
+        Seen::Number(x, _) => x,
     }
 }
 
@@ -52,10 +51,8 @@ pub fn is_steady(s: Seen) -> bool
     ensures { result ≡ steady_of s }
 {
     match s {
-        Seen::Nothing => false,
-        Seen::Over => false,
-        Seen::Under => false,
-        Seen::Number(x, still) => still,
+        Seen::Nothing | Seen::Over | Seen::Under => false,
+        Seen::Number(_, still) => still,
     }
 }
 
@@ -64,85 +61,88 @@ pub fn is_sampled(s: Seen) -> bool
 {
     match s {
         Seen::Nothing => false,
-        Seen::Over => true,
-        Seen::Under => true,
-        Seen::Number(x, still) => true,
+        Seen::Over | Seen::Under | Seen::Number(_, _) => true,
     }
 }
 
 // ---- the weight of the held sample
 
-pub fn v_now(u: Unit) -> Tenths
-    requires { Ranged u }
-    ensures { result ≡ v_now u }
+#[tactic(auto, unfolding(crate::specs::Reading::v_now))]
+pub fn v_now(u: InRange) -> Tenths
+    ensures { result ≡ v_now u.unit }
 {
-    let seen = u.seen;
-    weight::in_tenths(u.used.sealed.scale, cell_of(seen))
+    weight::in_tenths(u.unit.used.sealed.scale, cell_of(u.unit.seen))
 }
 
-fn g_now(u: Unit) -> Tenths
-    requires { Ranged u }
-    ensures { result ≡ g_now u }
+fn g_now(u: InRange) -> Tenths
+    ensures { result ≡ g_now u.unit }
 {
-    weight::above_zeros(v_now(u), u.zeros.z0, u.zeros.z1)
+    weight::above_zeros(v_now(u), u.unit.zeros.z0, u.unit.zeros.z1)
 }
 
-pub fn gross_now(u: Unit) -> Digits
-    requires { Ranged u }
-    ensures { result ≡ gross_now u }
+#[tactic(auto, unfolding(crate::specs::Reading::gross_now))]
+pub fn gross_now(u: InRange) -> Digits
+    ensures { result ≡ gross_now u.unit }
 {
-    weight::gross_of(u.used.sealed.scale.rsn, g_now(u))
+    weight::gross_of(u.unit.used.sealed.scale.rsn, g_now(u))
 }
 
-pub fn net_now(u: Unit) -> Digits
-    requires { Ranged u }
-    ensures { result ≡ net_now u }
+#[tactic(auto, using(crate::specs::RangeLaws::gross_now_lem, crate::specs::RangeLaws::tare_now))]
+pub fn net_now(u: InRange) -> Digits
+    ensures { result ≡ net_now u.unit }
 {
-    weight::net_of(gross_now(u), u.used.free.tare)
+    weight::net_of(gross_now(u), u.unit.used.free.tare)
 }
 
 fn place_at(s: Seen, p: Place) -> Place
     ensures { result ≡ place_at s p }
 {
     match s {
-        Seen::Nothing => p,
+        Seen::Nothing | Seen::Number(_, _) => p,
         Seen::Over => Place::Over,
         Seen::Under => Place::Under,
-        Seen::Number(x, still) => p,
     }
 }
 
-pub fn gross_place(u: Unit) -> Place
-    requires { Ranged u }
-    ensures { result ≡ gross_place u }
+// LFT, NOV and RSN as they are in use.
+pub fn limits(u: InRange) -> Limits
+    ensures lft { result.lft ≡ u.unit.used.lft }
+    ensures nov { result.nov ≡ u.unit.used.sealed.scale.nov }
+    ensures rsn { result.rsn ≡ u.unit.used.sealed.scale.rsn }
 {
-    let g = gross_now(u);
-    display::place_of(
-        u.used.lft,
-        u.used.sealed.scale.nov,
-        u.used.sealed.scale.rsn,
-        g,
-    )
+    let scale = u.unit.used.sealed.scale;
+    Limits {
+        lft: u.unit.used.lft,
+        nov: scale.nov,
+        rsn: scale.rsn,
+    }
 }
 
-pub fn place_now(u: Unit) -> Place
-    requires { Ranged u }
-    ensures { result ≡ place_now u }
+#[tactic(auto, using(crate::specs::RangeLaws::gross_now_lem))]
+pub fn gross_place(u: InRange) -> Place
+    ensures { result ≡ gross_place u.unit }
 {
-    let seen = u.seen;
-    place_at(seen, gross_place(u))
+    limits(u).place_of(gross_now(u))
 }
 
-pub fn value_now(u: Unit) -> Digits
-    requires { Ranged u }
-    ensures { result ≡ value_now u }
+pub fn place_now(u: InRange) -> Place
+    ensures { result ≡ place_now u.unit }
 {
-    display::net_or_gross(u.used.free.tas == 0, net_now(u), gross_now(u))
+    place_at(u.unit.seen, gross_place(u))
 }
 
-pub fn shown_now(u: Unit) -> Shown
-    requires { Ranged u }
-    ensures { result ≡ shown_now u }
+pub fn value_now(u: InRange) -> Digits
+    ensures { result ≡ value_now u.unit }
+{
+    if u.unit.used.free.tas == 0 {
+        net_now(u)
+    } else {
+        gross_now(u)
+    }
+}
+
+pub fn shown_now(u: InRange) -> Shown
+    ensures { result ≡ shown_now u.unit }
 {
     display::shown_at(place_now(u), value_now(u))
 }
@@ -157,77 +157,64 @@ fn read_at(p: Place, g: Digits, n: Digits, v: Digits, s: bool) -> Reading
     }
 }
 
-fn read_by(sampled: bool, a: Reading) -> Reading
-    ensures { result ≡ read_by sampled a }
+pub fn reading_now(u: InRange) -> Reading
+    ensures { result ≡ reading_of u.unit }
 {
-    if sampled { a } else { Reading::Nothing }
-}
-
-pub fn reading_now(u: Unit) -> Reading
-    requires { Ranged u }
-    ensures { result ≡ reading_of u }
-{
-    let seen = u.seen;
-    let a = read_at(
+    if !is_sampled(u.unit.seen) {
+        return Reading::Nothing;
+    }
+    read_at(
         place_now(u),
         gross_now(u),
         net_now(u),
         value_now(u),
-        is_steady(seen),
-    );
-    read_by(is_sampled(seen), a)
+        is_steady(u.unit.seen),
+    )
 }
 
 // ---- samples
 
-fn first_now(u: Unit) -> Tenths
-    requires { Ranged u }
-    ensures { result ≡ first_now u }
+#[tactic(auto, using(crate::specs::RangeLaws::v_now_lem), unfolding(crate::specs::Samples::first_now))]
+fn first_now(u: InRange) -> Tenths
+    ensures { result ≡ first_now u.unit }
 {
-    zero::first_zero(u.used.sealed.zse, u.used.sealed.scale.nov, v_now(u))
+    zero::first_zero(u.unit.used.sealed.zse, limits(u).nov, v_now(u))
 }
 
-fn tracked_now(u: Unit) -> Tenths
-    requires { Ranged u }
-    ensures { result ≡ tracked_now u }
+#[tactic(auto, using(crate::specs::RangeLaws::g_now_lem, crate::specs::RangeLaws::tare_now, crate::specs::RangeLaws::zeros_now_lem), unfolding(crate::specs::Samples::tracked_now))]
+fn tracked_now(u: InRange) -> Tenths
+    ensures { result ≡ tracked_now u.unit }
 {
-    let s = zero::tracked_value(u.used.free.tas, g_now(u), u.used.free.tare);
-    zero::tracked_zero(
-        u.used.sealed.scale.rsn,
-        u.used.sealed.scale.nov,
-        u.zeros.z1,
-        s,
-    )
+    let free = u.unit.used.free;
+    let s = zero::tracked_value(free.tas, g_now(u), free.tare);
+    limits(u).tracked_zero(u.unit.zeros.z1, s)
 }
 
-fn zeros_now(u: Unit) -> Zeros
-    requires { Ranged u }
-    ensures { result ≡ zeros_now u }
+fn zeros_now(u: InRange) -> Zeros
+    ensures { result ≡ zeros_now u.unit }
 {
-    let seen = u.seen;
-    let steady = is_steady(seen);
-    let waits = u.zeros.waits;
-    let a = zero::choose(steady & waits, first_now(u), u.zeros.z0);
-    let b = zero::choose(
-        (steady & !waits) & (u.used.sealed.ztr == 1),
-        tracked_now(u),
-        u.zeros.z1,
-    );
+    let steady = is_steady(u.unit.seen);
+    let z = u.unit.zeros;
     Zeros {
-        z0: a,
-        z1: b,
-        waits: !steady & waits,
+        z0: if steady & z.waits { first_now(u) } else { z.z0 },
+        z1: if (steady & !z.waits) & (u.unit.used.sealed.ztr == 1) {
+            tracked_now(u)
+        } else {
+            z.z1
+        },
+        waits: !steady & z.waits,
     }
 }
 
-// See, first zeroing, tracking.
-pub fn take_sample(u: Unit, x: i32, still: bool) -> Unit
-    requires { Ranged u }
-    ensures { result ≡ sample_of u x still }
+// See, first zeroing, tracking. The sample and its flag come as two, as `wire::sample` and `lent::on_sample` take them.
+pub fn take_sample(u: InRange, x: i32, still: bool) -> Unit
+    ensures { result ≡ sample_of u.unit x still }
 {
-    let z = u.zeros;
-    let mut v = changes::see(u, seen_of(x, still), z);
-    let w = zeros_now(v);
-    v.zeros = w;
-    v
+    let v = InRange {
+        unit: changes::see(u.unit, seen_of(x, still), u.unit.zeros),
+    };
+    Unit {
+        zeros: zeros_now(v),
+        ..v.unit
+    }
 }

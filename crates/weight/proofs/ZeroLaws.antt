@@ -1,7 +1,7 @@
 -- Laws of the zeros: what the first zeroing and tracking give lies in its band, and a move is one tenth. Assumes nothing.
-use Rattle.std.specs.Prelude.{◌≡◌, refl, Bool, true, false, ◌&&◌, ℕ, ◌+◌, ◌*◌, ◌≤◌, leb, ltb, eqb, ℤ, pos, negsuc, neg_ℤ, nat_abs, ◌+ℤ◌, ◌-ℤ◌}
+use Rattle.std.specs.Prelude.{◌≡◌, refl, Bool, true, false, ◌&&◌, ℕ, ◌+◌, ◌*◌, ◌≤◌, leb, ltb, eqb, ℤ, pos, negsuc, nat_abs, ◌+ℤ◌, ◌-ℤ◌}
 use Rattle.std.proofs.Common.{mul-le-mul, le_refl, arith, le-leb, leb-true, ltb-true, ltb-false}
-use Rattle.std.proofs.Math.IntN.{+ℤ_assoc, +ℤ_comm, +ℤ_invr}
+use Rattle.std.proofs.Math.IntN.{+ℤ_comm, +ℤ-neg_ℤ_cancel}
 use Rattle.std.specs.Int.Signed.{lt_z}
 use Rattle.cases.specs.Pick.{pick}
 use Rattle.cases.specs.PickLaws.{split}
@@ -66,10 +66,10 @@ moved_to z1 s =
 
 -- a move is one tenth
 one_up : (z : ℤ) → nat_abs ((z +ℤ pos 1) -ℤ z) ≡ 1
-one_up z = rw (+ℤ_comm z (pos 1), +ℤ_assoc (pos 1) z (neg_ℤ z), +ℤ_invr z)
+one_up z = rw (+ℤ_comm z (pos 1), +ℤ-neg_ℤ_cancel (pos 1) z)
 
 one_down : (z : ℤ) → nat_abs ((z -ℤ pos 1) -ℤ z) ≡ 1
-one_down z = rw (+ℤ_comm z (negsuc 0), +ℤ_assoc (negsuc 0) z (neg_ℤ z), +ℤ_invr z)
+one_down z = rw (+ℤ_comm z (negsuc 0), +ℤ-neg_ℤ_cancel (negsuc 0) z)
 
 not_zero : (z : ℤ) → ltb 0 (nat_abs z) ≡ true → lt_z (pos 0) z ≡ false → lt_z z (pos 0) ≡ true
 not_zero (pos n) h e = absurd (omega (arith, ltb-true 0 n h, ltb-false 0 n e))

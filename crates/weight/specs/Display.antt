@@ -48,17 +48,19 @@ abbrev pub as_figure : ℤ → Figure
 as_figure n = record { 0 = n }
 
 -- ---- the number that stands for each shown value
+-- by what over and under read as
+abbrev pub figure_by : ℤ → ℤ → Shown → Figure
+figure_by over under (shown.Number n) = as_figure n.0
+figure_by over under shown.Over = as_figure over
+figure_by over under shown.Under = as_figure under
+
 -- in 7 digits, at COF 3 and 9: over is 9999999, under the same below zero
 abbrev pub in_decimal : Shown → Figure
-in_decimal (shown.Number n) = as_figure n.0
-in_decimal shown.Over = as_figure (pos 9999999)
-in_decimal shown.Under = as_figure (neg_ℤ (pos 9999999))
+in_decimal s = figure_by (pos 9999999) (neg_ℤ (pos 9999999)) s
 
 -- in four bytes, at COF 0: 7FFFFFFF and 80000000 hex
 abbrev pub in_four : Shown → Figure
-in_four (shown.Number n) = as_figure n.0
-in_four shown.Over = as_figure (pos 0x7fffffff)
-in_four shown.Under = as_figure (neg_ℤ (pos 0x80000000))
+in_four s = figure_by (pos 0x7fffffff) (neg_ℤ (pos 0x80000000)) s
 
 -- in two bytes, at COF 2: 7FFF and 8000 hex, which also stand for a shown value above 32766 and below -32767 (reading 15, docs/DECISIONS.md)
 unfoldable pub two_of : Digits → Figure

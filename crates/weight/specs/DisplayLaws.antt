@@ -1,8 +1,8 @@
 -- Laws of the display range, of over and under, and of net. Assumes nothing.
 use Rattle.std.specs.Prelude.{◌≡◌, refl, Bool, true, false, not, ℕ, ◌+◌, ◌*◌, ◌<◌, ◌≤◌, T, leb, eqb, ℤ, pos, neg_ℤ, nat_abs, ◌+ℤ◌, ◌≤ℤ◌}
-use Rattle.std.proofs.Common.{sym, ap, subst, ◌∙◌, arith, eq-eqb, ne_eqb, le-leb}
+use Rattle.std.proofs.Common.{sym, ap, subst, arith, eq-eqb, ne_eqb, le-leb}
 use Rattle.std.proofs.lemmas.Bool.{lt-leb}
-use Rattle.std.proofs.Math.IntN.{+ℤ_assoc, +ℤ_invl, +ℤ_idr}
+use Rattle.std.proofs.Math.IntN.{ -ℤ-+ℤ_cancel}
 use Rattle.std.specs.Int.Signed.{lt_z, lt_z_no}
 use Rattle.cases.specs.Pick.{pick}
 use Rattle.cases.specs.PickLaws.{split, never}
@@ -63,4 +63,4 @@ cell_within x h = let k = place_within (neg_ℤ (pos 1599999)) (pos 1599999) x h
 -- ---- net and tare are gross, to the digit
 pub net_and_tare : (g tare : Digits) → (net g tare).0 +ℤ tare.0 ≡ g.0
 unfolding net
-net_and_tare g tare = +ℤ_assoc g.0 (neg_ℤ tare.0) tare.0 ∙ ap (g.0 +ℤ◌) (+ℤ_invl tare.0) ∙ +ℤ_idr g.0
+net_and_tare g tare = -ℤ-+ℤ_cancel g.0 tare.0

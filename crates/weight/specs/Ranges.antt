@@ -62,6 +62,8 @@ module _ (s : Scale) (ok : ScaleIn s) where
         round_div_bound _ (nat_abs (span_of s.curve) * 1000000) 391917360 (omega (arith, span_least))
         (rw (abs_mul (corrected s x).0 (pos (10 * s.nov * s.curve.c))) (omega (arith, corrected_product, span_least)))
 
+pub ruleset sizes = (span_least, span_most, corrected_most, corrected_product)
+
 pub less_to : (a b : Tenths) → nat_abs (less a b).0 ≤ nat_abs a.0 + nat_abs b.0
 unfolding less
 less_to a b = abs_sub a.0 b.0

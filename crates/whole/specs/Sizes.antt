@@ -2,6 +2,7 @@
 use Rattle.std.specs.Prelude.{◌≡◌, refl, Bool, true, false, not, cond, ℕ, zero, suc, ◌+◌, ◌*◌, ◌-◌, ◌/◌, ◌^◌, ◌<◌, ◌≤◌, T, ltb, ℤ, pos, negsuc, neg_ℤ, nat_abs, ◌+ℤ◌, ◌-ℤ◌, ◌*ℤ◌}
 use Rattle.std.proofs.Common.{div-le_self, arith, ltb→lt}
 use Rattle.std.proofs.Math.IntN.{sub_ℕ, one, *ℤ-one}
+use Rattle.std.proofs.lemmas.Int.{unsigned_abs-mul, fits_signed_from_abs}
 use Rattle.std.specs.Int.Signed.{mag, quot_z}
 use Rattle.std.specs.Int.{Width}
 use mir.Val.{SFits, hbits}
@@ -30,10 +31,7 @@ pub abs_sub : (a b : ℤ) → nat_abs (a -ℤ b) ≤ nat_abs a + nat_abs b
 abs_sub a b = rw (← abs_neg b) (abs_add a (neg_ℤ b))
 
 pub abs_mul : (a b : ℤ) → nat_abs (a *ℤ b) ≡ nat_abs a * nat_abs b
-abs_mul (pos a) (pos b) = refl
-abs_mul (pos a) (negsuc b) = abs_neg (pos (a * suc b))
-abs_mul (negsuc a) (pos b) = abs_neg (pos (suc a * b))
-abs_mul (negsuc a) (negsuc b) = refl
+abs_mul a b = unsigned_abs-mul a b
 
 pub abs_like : (z : ℤ) (n : ℕ) → nat_abs (like z n) ≡ n
 abs_like (pos _) n = refl
@@ -58,4 +56,4 @@ mag_abs (pos n) = omega arith
 mag_abs (negsuc n) = omega arith
 
 pub abs_fits : {w : Width} {z : ℤ} → nat_abs z < 2 ^ hbits w → SFits w z
-abs_fits {w} {z} h = record { sfits = let l : mag z ≤ nat_abs z = mag_abs z in omega arith }
+abs_fits {w} {z} h = fits_signed_from_abs w z h

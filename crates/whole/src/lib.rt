@@ -1,38 +1,47 @@
 // Signed whole numbers: their sign and size, the sets that they are taken from, and a product divided and rounded.
 #![tactic(auto)]
 
-ghost use Rattle.std.specs.Prelude.{◌≡◌, ◌+◌, ◌*◌, ◌<◌, ◌^◌, ℤ, pos, nat_abs, ◌*ℤ◌};
+ghost use Rattle.std.specs.Prelude.{◌≡◌, true, ◌+◌, ◌*◌, ◌<◌, ◌^◌, ℤ, pos, nat_abs, ◌*ℤ◌};
 ghost use Rattle.std.specs.Int.Signed.{non_neg};
 ghost use Rattle.whole.specs.Round.{round_nat, round_div, like};
 ghost use Rattle.whole.specs.Sets.{Between, has};
 
-// Not below zero.
-pub fn is_plus(x: i64) -> bool
-    ensures { result ≡ non_neg x }
-{
-    0 <= x
+// A number by its sign, whether it is at least 0, and its size.
+#[derive(Clone, Copy, PartialEq)]
+pub struct Whole {
+    pub plus: bool,
+    pub n: u64,
 }
 
-// The size of x, the least number's too, which has no opposite.
-pub fn size(x: i64) -> u64
-    ensures { result ≡ nat_abs x }
-{
-    if x < 0 {
-        let n = -(x + 1);
-        (n as u64) + 1
-    } else {
-        x as u64
+impl From<i64> for Whole {
+    ghost from_gives = { λ x w. w ≡ record { plus = non_neg x; n = nat_abs x } };
+
+    fn from(x: i64) -> Whole {
+        Whole {
+            plus: 0 <= x,
+            n: x.unsigned_abs(),
+        }
     }
 }
 
-// From lo to hi, of a number by its sign and size.
-pub fn is_between(plus: bool, n: u64, lo: u64, hi: u64) -> bool
-    ensures { result ≡ has (Between lo hi) plus n }
-{
-    plus & ((lo <= n) & (n <= hi))
+impl From<u64> for Whole {
+    ghost from_gives = { λ n w. w ≡ record { plus = true; n = n } };
+
+    fn from(n: u64) -> Whole {
+        Whole { plus: true, n }
+    }
 }
 
-// The size m under the sign of x.
+impl Whole {
+    // From lo to hi.
+    pub fn is_between(self, lo: u64, hi: u64) -> bool
+        ensures { result ≡ has (Between lo hi) self.plus self.n }
+    {
+        self.plus & (lo..=hi).contains(&self.n)
+    }
+}
+
+// The size m under the sign of x. It fits, so `as`: the `Err` of a `try_from` would never come.
 pub fn signed_as(x: i64, m: u64) -> i64
     requires { m < 2 ^ 63 }
     ensures { result ≡ like x m }
@@ -42,6 +51,7 @@ pub fn signed_as(x: i64, m: u64) -> i64
 }
 
 // n / d to the nearest whole number, a half upwards.
+#[tactic(auto, unfolding(crate::specs::Round::round_nat))]
 pub fn round_nat(n: u64, d: u64) -> u64
     requires { (0 < d) × (2 * n + 2 * d < 2 ^ 64) }
     ensures { result ≡ round_nat n d }
@@ -50,11 +60,11 @@ pub fn round_nat(n: u64, d: u64) -> u64
 }
 
 // x * m / d to the nearest whole number; of two that are equally near, the larger in size. The work is done on sizes, where nothing wraps.
+#[tactic(auto, using(crate::proofs::RoundLaws::round_le, crate::proofs::RoundLaws::round_div_mul, crate::specs::Bits::same_eq))]
 pub fn round_mul_div(x: i64, m: u64, d: u64) -> i64
     requires { (0 < d) × (2 * (nat_abs x * m) + 2 * d < 2 ^ 63) }
     ensures { result ≡ round_div (x *ℤ pos m) d }
 {
-    let n = size(x);
-    let q = round_nat(n * m, d);
+    let q = round_nat(x.unsigned_abs() * m, d);
     signed_as(x, q)
 }

@@ -8,7 +8,8 @@ ghost use Rattle.serving.specs.Machine.{taken_of};
 ghost use Rattle.wire.specs.Wire.{sampled, restarted, read, block_of};
 
 use serving::Taken;
-use state::{Unit, changes, ranged};
+use state::in_range::InRange;
+use state::{Unit, changes};
 use weighing::Reading;
 
 pub fn new() -> Unit
@@ -20,28 +21,28 @@ pub fn new() -> Unit
 pub fn sample(u: Unit, x: i32, still: bool) -> Unit
     ensures { result ≡ sampled u x still }
 {
-    if ranged::is_ranged(u) {
-        return weighing::take_sample(u, x, still);
+    match InRange::new(u) {
+        Some(r) => weighing::take_sample(r, x, still),
+        None => u,
     }
-    u
 }
 
 pub fn restart(u: Unit) -> Unit
     ensures { result ≡ restarted u }
 {
-    if ranged::is_ranged(u) {
-        return changes::restart(u);
+    match InRange::new(u) {
+        Some(r) => changes::restart(r.unit),
+        None => u,
     }
-    u
 }
 
 pub fn reading(u: Unit) -> Reading
     ensures { result ≡ read u }
 {
-    if ranged::is_ranged(u) {
-        return weighing::reading_now(u);
+    match InRange::new(u) {
+        Some(r) => weighing::reading_now(r),
+        None => Reading::Nothing,
     }
-    Reading::Nothing
 }
 
 // The ranges are looked at once for a whole block: each line obeyed keeps them.
@@ -49,8 +50,12 @@ pub fn take(u: Unit, bytes: &[u8], room: &mut [u8]) -> Taken
     ensures taken { result ≡ taken_of (block_of u (length room.old) bytes.now) }
     ensures room { room.new ≡ room_of (block_of u (length room.old) bytes.now) room.old }
 {
-    if ranged::is_ranged(u) {
-        return serving::serve(u, bytes, room);
+    match InRange::new(u) {
+        Some(r) => serving::serve(r, bytes, room),
+        None => Taken {
+            next: u,
+            taken: 0,
+            written: 0,
+        },
     }
-    serving::handed(u, 0, 0)
 }

@@ -1,18 +1,13 @@
-use Rattle.std.proofs.Common.{arith}
+use Rattle.std.proofs.Common.{arith, rules}
 use Rattle.session.specs.WalkLaws.{walk_start, walk_pass, walk_skip}
 use Rattle.bench.proofs.scan.Goals as goal
+use Rattle.bench.proofs.scan.Goals.{then-not-t, else-not-t}
 
-pub loop-i-init : goal.loop-i-init
-loop-i-init c = walk_start _ _ _ (omega arith)
+pub loop-to-init : goal.loop-to-init
+loop-to-init c = walk_start _ _ _ (omega arith)
 
-pub loop-i-preserved-then-t : goal.loop-i-preserved-then-t
-loop-i-preserved-then-t c = walk_pass _ _ _ _ _ _ c.loop-i.invariant _ c.step-t.ensures (omega (arith, c.loop-i-test.true)) c.if-c-eq10.false c.if-t.true
-
-pub loop-i-preserved : goal.loop-i-preserved
-loop-i-preserved c = walk_skip _ _ _ _ _ _ c.loop-i.invariant _ c.step-t.ensures (omega (arith, c.loop-i-test.true)) c.if-c-eq10.false c.if-t.false
-
-pub returns-after-loop-i : goal.returns-after-loop-i
-returns-after-loop-i c = record { walked = c.loop-i.invariant; ended = λ h. absurd (omega (arith, h, c.loop-i-test.false)) }
-
-pub returns-then-c-eq10 : goal.returns-then-c-eq10
-returns-then-c-eq10 c = record { walked = c.loop-i.invariant; ended = λ _. c.if-c-eq10.true }
+pub loop-to-preserved : goal.loop-to-preserved
+loop-to-preserved c = elim c.if-not-t.branch [
+  | then-not-t w ↦ rw w.from-is (walk_skip _ _ _ _ _ _ c.loop-to.invariant _ c.step-t.ensures (omega arith) c.if-buf-to-eq10.false (search (rules, w.if-not-t.true)))
+  | else-not-t w ↦ rw w.from-is (walk_pass _ _ _ _ _ _ c.loop-to.invariant _ c.step-t.ensures (omega arith) c.if-buf-to-eq10.false (search (rules, w.if-not-t.false)))
+]

@@ -1,5 +1,5 @@
 use Rattle.state.proofs.SoundLaws.{new_sound}
 use Rattle.blocks.proofs.main.Goals as goal
 
-pub loop-turns-init : goal.loop-turns-init
-loop-turns-init c = rw c.new.ensures new_sound
+pub invariant_of-start : goal.invariant_of-start
+invariant_of-start c = record { sound = rw c.new.ensures new_sound }

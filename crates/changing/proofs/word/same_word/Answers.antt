@@ -1,7 +1,6 @@
-use Rattle.std.proofs.Common.{refl}
-use Rattle.plans.specs.Plans.{same_word}
+use Rattle.std.proofs.Common.{rules, ◌∙◌}
+use Rattle.changing.proofs.Words.{same_is}
 use Rattle.changing.proofs.word.same_word.Goals as goal
 
 pub returns : goal.returns
-unfolding same_word
-returns c = refl
+returns c = c.eq.ensures ∙ same_is c.args.a c.args.b (search rules) (search rules)

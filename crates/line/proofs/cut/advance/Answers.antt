@@ -2,6 +2,7 @@ use Rattle.std.proofs.Common.{Bool, true, false, ◌≡◌, refl, ◌∙◌, ℕ
 use Rattle.std.proofs.lemmas.Bool.{lt-leb}
 use Rattle.cases.specs.PickLaws.{cases, named}
 use Rattle.line.specs.declared.cut.Pos.{Pos}
+use Rattle.line.specs.LineLaws.{counted_within}
 use Rattle.line.specs.Line.{ends_of, drops_of, counted_of, moved_of}
 use Rattle.line.proofs.cut.advance.Goals as goal
 
@@ -22,16 +23,19 @@ module _ (b : ℕ) (h : 0x22 < b) (n : b ≡ 0x3b → ⊥) where
 
 pub returns-then-p-lt-MOST : goal.returns-then-p-lt-MOST
 unfolding moved_of
-returns-then-p-lt-MOST c = c.stored.ensures ∙ counts _ (search rules) (search rules) _
+returns-then-p-lt-MOST c = record {
+  moved = c.stored.ensures ∙ counts _ (search rules) (search rules) _;
+  within = rw c.stored.ensures (counted_within c.args.p c.args.b);
+}
 
 pub returns-then-ends : goal.returns-then-ends
 unfolding moved_of
-returns-then-ends c = search (cases, named)
+returns-then-ends c = record { moved = search (cases, named); within = tt }
 
 pub returns-then-drops : goal.returns-then-drops
 unfolding moved_of
-returns-then-drops c = search (cases, named)
+returns-then-drops c = record { moved = search (cases, named); within = tt }
 
 pub returns : goal.returns
 unfolding moved_of
-returns c = search (cases, named)
+returns c = record { moved = search (cases, named); within = rw c.counted.ensures (counted_within c.args.p c.args.b) }

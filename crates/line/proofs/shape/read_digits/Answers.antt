@@ -1,38 +1,31 @@
-use Rattle.std.proofs.Common.{refl, arith}
-use Rattle.cases.specs.PickLaws.{cases}
-use Rattle.line.specs.ReadLaws.{ands, all_no, all_on, all_end, value_on, value_end, digit_room, room}
-use Rattle.line.specs.Shape.{is_digit, digits_of}
+use Rattle.std.proofs.Common.{◌≡◌, ◌∙◌, sym, ◌&&◌, true, leb, length, get_or, rules}
+use Rattle.line.specs.ReadLaws.{digits_yes, digits_no, digits_other, all_no, all_on, all_end, value_on, value_end, digit_room}
+use Rattle.line.specs.Shape.{is_digit}
 use Rattle.line.proofs.shape.read_digits.Goals as goal
 
-pub returns-then-n-lt1 : goal.returns-then-n-lt1
-unfolding digits_of
-returns-then-n-lt1 c = record { value = search (cases, ands) depth 8; small = tt }
+pub returns-then-not-contains-clause-value : goal.returns-then-not-contains-clause-value
+returns-then-not-contains-clause-value c =
+    let within : (leb 1 (length c.args.s.now) && leb (length c.args.s.now) 10) ≡ c.contains.result = search rules in
+    digits_no c.args.s.now (within ∙ c.if-not-contains.true)
 
-pub returns-then-n-gt10 : goal.returns-then-n-gt10
-unfolding digits_of
-returns-then-n-gt10 c = record { value = search (cases, ands) depth 8; small = tt }
-
-pub loop-i-init : goal.loop-i-init
-loop-i-init c = (omega arith, refl, refl, omega arith)
-
-pub returns-then-b-lt48 : goal.returns-then-b-lt48
-unfolding digits_of is_digit
-returns-then-b-lt48 c = record { value = search (cases, ands, all_no) depth 8; small = tt }
-
-pub returns-then-b-gt57 : goal.returns-then-b-gt57
-unfolding digits_of is_digit
-returns-then-b-gt57 c = record { value = search (cases, ands, all_no) depth 8; small = tt }
-
-pub overflow_mul-v : goal.overflow_mul-v
-overflow_mul-v c = omega (arith, room c.loop-i.i 9 c.loop-i.v c.loop-i.invariant.3 (omega arith))
-
-pub overflow_add-v : goal.overflow_add-v
-overflow_add-v c = omega (arith, room c.loop-i.i 9 c.loop-i.v c.loop-i.invariant.3 (omega arith))
-
-pub loop-i-preserved : goal.loop-i-preserved
+pub returns-then-not-is_ascii_digit-clause-value : goal.returns-then-not-is_ascii_digit-clause-value
 unfolding is_digit
-loop-i-preserved c = (omega arith, search (cases, ands, all_on) depth 8, search (cases, value_on), digit_room _ _ _ c.loop-i.invariant.3 (omega arith))
+returns-then-not-is_ascii_digit-clause-value c =
+    let within : (leb 1 (length c.args.s.now) && leb (length c.args.s.now) 10) ≡ c.contains.result = search rules in
+    digits_other c.args.s.now (within ∙ c.if-not-contains.false)
+    (all_no is_digit c.args.s.now c.loop-b.b-index c.loop-b.invariant.0 c.loop-b-test.true (sym c.if-not-is_ascii_digit.ensures.value))
 
-pub returns : goal.returns
-unfolding digits_of
-returns c = record { value = search (cases, ands, all_end, value_end) depth 8; small = room c.loop-i.i 10 c.loop-i.v c.loop-i.invariant.3 (omega arith) }
+pub loop-b-preserved : goal.loop-b-preserved
+unfolding is_digit
+loop-b-preserved c =
+    let on : is_digit (get_or c.args.s.now c.loop-b.b-index 0) ≡ true = sym c.if-not-is_ascii_digit.ensures.value in (
+      all_on is_digit c.args.s.now c.loop-b.b-index c.loop-b.invariant.0 c.loop-b-test.true on,
+      rw c.from.ensures (value_on c.args.s.now c.loop-b.b-index c.loop-b.v c.loop-b.invariant.1 c.loop-b-test.true),
+      digit_room _ _ _ c.loop-b.invariant.2 (search rules),
+    )
+
+pub returns-clause-value : goal.returns-clause-value
+returns-clause-value c =
+    let within : (leb 1 (length c.args.s.now) && leb (length c.args.s.now) 10) ≡ c.contains.result = search rules in
+    value_end c.args.s.now c.loop-b.b-index c.loop-b.v c.loop-b.invariant.1 (search rules)
+    ∙ digits_yes c.args.s.now (within ∙ c.if-not-contains.false) (all_end is_digit c.args.s.now c.loop-b.b-index c.loop-b.invariant.0 (search rules))

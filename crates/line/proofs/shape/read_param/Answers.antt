@@ -1,32 +1,29 @@
+use Rattle.std.proofs.Common.{◌≡◌, ◌∙◌, get_or, le-ltb, rules}
 use Rattle.cases.specs.PickLaws.{cases}
-use Rattle.line.specs.ReadLaws.{text_part, number_part}
+use Rattle.line.specs.ReadLaws.{query_part, text_part, number_part}
 use Rattle.line.specs.Shape.{param_of}
 use Rattle.line.proofs.shape.read_param.Goals as goal
 
-pub returns-then-n-lt1 : goal.returns-then-n-lt1
+pub returns-in-empty : goal.returns-in-empty
 unfolding param_of
-returns-then-n-lt1 c = search cases depth 8
+returns-in-empty c = search cases depth 8
 
-pub returns-then-n-gt1 : goal.returns-then-n-gt1
+pub returns-in-63 : goal.returns-in-63
 unfolding param_of
-returns-then-n-gt1 c = search cases depth 8
+returns-in-63 c = let b : get_or c.args.t.now 0 0 ≡ 0x3f = search rules in simp (le-ltb _ _ c.in-63.len_at_least, b) (c.then_some.ensures ∙ rw c.is_empty.ensures (query_part c.args.t.now c.in-63.len_at_least))
 
-pub returns-then-b-eq63 : goal.returns-then-b-eq63
+pub returns-in-34 : goal.returns-in-34
 unfolding param_of
-returns-then-b-eq63 c = search cases depth 8
+returns-in-34 c = let b : get_or c.args.t.now 0 0 ≡ 0x22 = search rules in simp (le-ltb _ _ c.in-34.len_at_least, b) (text_part _ _ c.read_text.ensures)
 
-pub returns-then-b-eq34 : goal.returns-then-b-eq34
+pub returns-in-45 : goal.returns-in-45
 unfolding param_of
-returns-then-b-eq34 c = search (cases, text_part) depth 8
+returns-in-45 c = let b : get_or c.args.t.now 0 0 ≡ 0x2d = search rules in simp (le-ltb _ _ c.in-45.len_at_least, b) (number_part _ _ _ c.read_number.ensures)
 
-pub returns-then-b-eq45 : goal.returns-then-b-eq45
+pub returns-in-43 : goal.returns-in-43
 unfolding param_of
-returns-then-b-eq45 c = search (cases, number_part) depth 8
+returns-in-43 c = let b : get_or c.args.t.now 0 0 ≡ 0x2b = search rules in simp (le-ltb _ _ c.in-43.len_at_least, b) (number_part _ _ _ c.read_number-in-43.ensures)
 
-pub returns-then-b-eq43 : goal.returns-then-b-eq43
+pub returns-in_default : goal.returns-in_default
 unfolding param_of
-returns-then-b-eq43 c = search (cases, number_part) depth 8
-
-pub returns : goal.returns
-unfolding param_of
-returns c = search cases depth 8
+returns-in_default c = search cases depth 8

@@ -1,7 +1,0 @@
-use Rattle.reply.specs.PushLaws.{onto}
-use Rattle.reply.specs.Reply.{places_of, signed_text}
-use Rattle.reply.proofs.blank_7.Goals as goal
-
-pub returns : goal.returns
-unfolding places_of signed_text
-returns c = onto _ _ _ _ (onto _ _ _ _ (onto _ _ _ _ c.empty.ensures c.push.ensures tt) c.seven.ensures tt) c.end.ensures tt

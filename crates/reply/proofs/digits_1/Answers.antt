@@ -1,7 +1,0 @@
-use Rattle.reply.specs.PushLaws.{onto}
-use Rattle.reply.specs.Reply.{places_of, digits_text}
-use Rattle.reply.proofs.digits_1.Goals as goal
-
-pub returns : goal.returns
-unfolding places_of digits_text
-returns c = rw (← c.digit.ensures) (onto _ _ _ _ (onto _ _ _ _ c.empty.ensures c.push.ensures tt) c.end.ensures tt)

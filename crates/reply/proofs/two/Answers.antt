@@ -1,6 +1,0 @@
-use Rattle.reply.specs.Reply.{places_of}
-use Rattle.reply.proofs.two.Goals as goal
-
-pub returns : goal.returns
-unfolding places_of
-returns c = rw (c.push_2.ensures, c.digit-2.ensures, c.digit.ensures)

@@ -1,6 +1,0 @@
-use Rattle.state.specs.Parts.{changed_by}
-use Rattle.state.proofs.changes.set_zeros.Goals as goal
-
-pub returns : goal.returns
-unfolding changed_by
-returns c = rw c.unchanged-c.ensures
