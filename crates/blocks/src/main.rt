@@ -45,7 +45,7 @@ fn value(b: u8) -> Option<u8> {
     u8::try_from(char::from(b).to_digit(16)?).ok()
 }
 
-// A room's digits and one more; past `MOST` it is no room.
+// A room's digits and one more; past `MOST` it is no room. `session` grows a number of its own, with another type and end.
 fn grown(room: usize, b: u8) -> Stage {
     if b.is_ascii_digit() && room <= MOST {
         return Stage::Room(room * 10 + usize::from(b - b'0'));

@@ -26,7 +26,7 @@ pub fn on_lft(u: Unit, p: Param) -> Result<Change, Reason>
     Ok(Change::To(changes::trade(u, x.n)))
 }
 
-// TDD's value comes before its lock and seal, which bar 0 alone.
+// TDD's value comes before its lock and seal, which bar 0 alone. It is looked at once, where the line brought it, and becomes no enum.
 #[tactic(auto, unfolding(plans::specs::Obey::judge))]
 pub fn on_tdd(u: Unit, p: Param) -> Result<Change, Reason>
     ensures { judged_as u result ≡ answer_of (judge u (tdd_plan u p)) }

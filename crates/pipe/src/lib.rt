@@ -44,7 +44,7 @@ impl SoundUnit {
     }
 }
 
-// The first o bytes, if there are so many. Nothing is promised: what is written lies outside the proofs, and is run and compared (decision 33,
+// The first o bytes, if there are so many: of any slice and count, which `Waiting` would narrow. Nothing is promised: what is written lies outside the proofs, and is run and compared (decision 33,
 // docs/DECISIONS.md). Where writing fails, no one is left to tell: the lines that follow are taken as ever.
 pub fn write<P: Print>(rt: &P, out: &[u8], o: usize) {
     if let Some(waits) = out.get(..o) {
@@ -125,7 +125,8 @@ pub trait Lines: Copy {
         ensures { result ≡ stands self.now };
 }
 
-// How many bytes were read: they stand at the front, and are those that the input lost, where these are known. A read that fails ends the input.
+// How many bytes were read: they stand at the front, and are those that the input lost, where these are known. A read that fails
+// ends the input: this stays a function that cannot fail.
 pub fn read<R: Read>(input: &mut R, buf: &mut [u8]) -> usize
     ensures most { result ≤ length buf.old }
     ensures front { Consumes (R.remaining input.old) (R.remaining input.new) (take result buf.new) }

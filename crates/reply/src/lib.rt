@@ -92,7 +92,7 @@ pub fn digits<const N: usize>(n: u64) -> Reply
     empty().digits::<N>(n).end()
 }
 
-// A number that is held without a sign: GCA? and GDE? with 6 digits, NOV? with 7.
+// A number that is held without a sign: GCA? and GDE? with 6 digits, NOV? with 7. A blank and `digits`, but a text of its own (`blank_digits`).
 pub fn blank<const N: usize>(n: u64) -> Reply
     requires { N ≤ 14 }
     ensures { result ≡ reply_of (blank_digits N n) }

@@ -44,7 +44,7 @@ pub enum State {
     Hopeless,
 }
 
-// The state after a byte, and whether the byte is one of a command.
+// The state after a byte, and whether the byte is one of a command: both always count.
 #[derive(Clone, Copy)]
 pub struct Stepped {
     pub next: State,
@@ -150,7 +150,7 @@ pub fn has_begun(s: State) -> bool
     !matches!(s, State::Start)
 }
 
-// x, if it is in signed 32 bits.
+// x, if it is in signed 32 bits. Its sign is one `if`, which no call would shorten.
 fn sampled(d: Decimal, still: bool) -> Option<Event>
     ensures { result ≡ sample_of (signed_of d.minus d.size) still }
 {

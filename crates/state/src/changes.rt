@@ -74,6 +74,7 @@ fn reset(u: Unit, used: Settings, point: Point) -> Parts
     }
 }
 
+// Each of these sets its parts and has a definition of its own; no parameter would name a field.
 pub fn alter(u: Unit, q: Sealed, p: Point) -> Parts
     ensures { parts_of u result ≡ altered_of u q p }
 {

@@ -87,7 +87,7 @@ pub struct Unit {
 }
 
 // The parts of the unit that a command could change, as they stand after it. It changes neither the line nor the sample. Where it `saves`, the
-// settings in use become the saved ones too. Counter and reason are the unit's numbers.
+// settings in use become the saved ones too; the flag hangs on no value. Counter and reason are the unit's numbers.
 #[derive(Clone, Copy)]
 pub struct Parts {
     pub used: Settings,

@@ -21,6 +21,7 @@ pub enum Reading {
 
 // ---- the held sample
 
+// As `shown_at` (weight), for what is held.
 fn seen_at(p: Place, x: Cell, still: bool) -> Seen
     ensures { result ≡ seen_at p x still }
 {
@@ -147,6 +148,7 @@ pub fn shown_now(u: InRange) -> Shown
     display::shown_at(place_now(u), value_now(u))
 }
 
+// As `shown_at` (weight), for what a host reads.
 fn read_at(p: Place, g: Digits, n: Digits, v: Digits, s: bool) -> Reading
     ensures { result ≡ read_at p g n v s }
 {

@@ -62,6 +62,7 @@ impl Limits {
 
 // ---- the shown value
 
+// One `match` over a place, and so are `seen_at` and `read_at` (weighing), each for its result: three values as arguments would be no shorter.
 pub fn shown_at(p: Place, n: Digits) -> Shown
     ensures { result ≡ shown_at p n }
 {

@@ -6,7 +6,7 @@ ghost use Rattle.std.specs.Int.Signed.{non_neg};
 ghost use Rattle.whole.specs.Round.{round_nat, round_div, like};
 ghost use Rattle.whole.specs.Sets.{Between, has};
 
-// A number by its sign, whether it is at least 0, and its size.
+// A number by its sign, whether it is at least 0, and its size: both always count.
 #[derive(Clone, Copy, PartialEq)]
 pub struct Whole {
     pub plus: bool,

@@ -18,6 +18,7 @@ pub fn new() -> Unit
     changes::new_unit()
 }
 
+// Each operation looks at the ranges by itself and promises its own event: a closure for what follows would have to carry that promise too.
 pub fn sample(u: Unit, x: i32, still: bool) -> Unit
     ensures { result ≡ sampled u x still }
 {
