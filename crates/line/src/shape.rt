@@ -9,7 +9,8 @@ use crate::names::{Letters, Name, called_by};
 #[derive(Clone, Copy)]
 pub struct Number(pub i64);
 
-// A text is a place and a length within the line, and not a slice: `text_within` (specs/PlaceLaws) says where it lies, and a command lends nothing.
+// What follows the letters, in four kinds: nothing is one that commands ask for, so there is no `Option` of the others. A text is a place and a
+// length within the line, and not a slice: `text_within` (specs/PlaceLaws) says where it lies, and a command lends nothing.
 #[derive(Clone, Copy)]
 pub enum Param {
     Nothing,

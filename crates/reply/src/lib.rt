@@ -32,7 +32,7 @@ impl Reply {
         next
     }
 
-    // N digits, the last one first; of a number that has more, the last ones. The loop names the places: how much of the number is left goes by them.
+    // N digits, the last one first; of a number that has more, the last ones. The loop names the places: how much of the number is left goes by them. A digit fits, so `as`.
     fn digits<const N: usize>(self, n: u64) -> Reply
         requires { N ≤ ROOM }
         ensures { result ≡ pushes self (digits_of N n) }
