@@ -23,6 +23,8 @@ pub struct SoundUnit {
 }
 
 impl SoundUnit {
+    ghost use Rattle.pipe.specs.Happened.{happened_of};
+
     // A sound unit needs no look at its ranges.
     pub fn in_range(self) -> InRange
         ensures { result.unit ≡ self.unit }
@@ -31,7 +33,9 @@ impl SoundUnit {
     }
 
     // A sample or a restart; no other line changes the unit here.
-    pub fn happened(self, e: Option<Event>) -> SoundUnit {
+    pub fn happened(self, e: Option<Event>) -> SoundUnit
+        ensures { result.unit ≡ happened_of self.unit e }
+    {
         match e {
             Some(Event::Sample(x, still)) => SoundUnit {
                 unit: weighing::take_sample(self.in_range(), x, still),
@@ -44,8 +48,9 @@ impl SoundUnit {
     }
 }
 
-// The first o bytes, if there are so many: of any slice and count, which `Waiting` would narrow. Nothing is promised: what is written lies outside the proofs, and is run and compared (decision 33,
-// docs/DECISIONS.md). Where writing fails, no one is left to tell: the lines that follow are taken as ever.
+// The first o bytes, if there are so many: of any slice and count, which `Waiting` would narrow. Nothing is promised: no clause can say what a
+// terminal takes, so what is written is run and compared (decision 33, docs/DECISIONS.md). Where writing fails, no one is left to tell: the lines
+// that follow are taken as ever.
 pub fn write<P: Print>(rt: &P, out: &[u8], o: usize) {
     if let Some(waits) = out.get(..o) {
         let _ = rt.write_all(waits);
@@ -135,7 +140,8 @@ pub fn read<R: Read>(input: &mut R, buf: &mut [u8]) -> usize
 }
 
 // Takes all lines of the input; a last line without its LF counts as ended. What is printed is written before more is read, so that it comes at a
-// terminal too. A proved loop has to end, and nothing says that the input does: the turns are counted up to a number that no run comes to.
+// terminal too. A proved loop has to end, and nothing says that the input does: the turns are counted up to a number that no run comes to. That it
+// ends and stays in bounds is all that is promised: what it does shows in what is written alone, as of `write`.
 pub fn run<P: Print, R: Read, L: Lines>(rt: &P, input: &mut R, start: L) {
     let mut lines = start;
     let mut buf = [0u8; LARGE];

@@ -19,7 +19,7 @@ pub struct Taken {
 
 // Bytes are taken until they end or the free room could be too short for a reply. The line lies apart from the unit while it comes in, since
 // a store at a place that only the run knows would keep the whole unit from being held in parts; at a line's end it is put back, and the
-// unit takes what the line changed.
+// unit takes what the line changed. How many bytes were taken is a result, and counted as one: no byte is looked up by it.
 #[tactic(auto, using(crate::proofs::TurnLaws::leave_end, crate::proofs::TurnLaws::leave_full))]
 pub fn serve(u: InRange, bytes: &[u8], room: &mut [u8]) -> Taken
     ensures taken { result ≡ taken_of (run_of machine u.unit (length room.old) bytes.now) }
@@ -29,7 +29,6 @@ pub fn serve(u: InRange, bytes: &[u8], room: &mut [u8]) -> Taken
     let mut v = u.unit;
     let mut kept = v.kept;
     let mut pos = v.pos;
-    // How many bytes were taken is a result, and counted as one: no byte is looked up by it.
     let mut taken: usize = 0;
     let mut at: usize = 0;
     for &b in bytes {
@@ -50,8 +49,7 @@ pub fn serve(u: InRange, bytes: &[u8], room: &mut [u8]) -> Taken
                 }
             }
             Act::Ends => {
-                v.kept = kept;
-                v.pos = pos;
+                v = Unit { kept, pos, ..v };
                 let a = commands::obey(InRange { unit: v }, kept, pos);
                 kept = [0u8; MOST];
                 pos = cut::fresh_pos();
@@ -60,10 +58,8 @@ pub fn serve(u: InRange, bytes: &[u8], room: &mut [u8]) -> Taken
             }
         }
     }
-    v.kept = kept;
-    v.pos = pos;
     Taken {
-        next: v,
+        next: Unit { kept, pos, ..v },
         taken,
         written: at,
     }
