@@ -79,15 +79,15 @@ impl Lines for Bench {
             from = line.from;
             let mut to = line.to;
             if to < bytes.len() {
-                let e = session::ended(state);
-                state = State::Start;
-                if let Some(Event::Command) = e {
-                    bytes[to] = b';';
-                    to += 1;
-                } else {
-                    out.marked(e);
-                    unit = SoundUnit { unit }.happened(e).unit;
+                match session::ended(state) {
+                    Some(Event::Command) => {
+                        bytes[to] = b';';
+                        to += 1;
+                    }
+                    None => out.marked(None),
+                    e => unit = SoundUnit { unit }.happened(e).unit,
                 }
+                state = State::Start;
             }
             while from < to {
                 out.place();

@@ -2,7 +2,7 @@
 #![tactic(auto)]
 
 ghost use Rattle.std.specs.Io.KnownBytes.{Consumes};
-ghost use Rattle.std.specs.Prelude.{◌≡◌, true, ◌+◌, ◌-◌, ◌≤◌, length, get_or, set, take, None};
+ghost use Rattle.std.specs.Prelude.{◌≡◌, true, ◌+◌, ◌-◌, ◌≤◌, leb, length, get_or, set, take, None};
 ghost use Rattle.session.specs.declared.State.{State as TheState};
 ghost use Rattle.state.specs.Sound.{sound_of};
 
@@ -57,6 +57,26 @@ pub fn write<P: Print>(rt: &P, out: &[u8], o: usize) {
     }
 }
 
+// A reply fits behind o bytes of n.
+fn fits(n: usize, o: usize) -> bool
+    requires { 17 ≤ n }
+    ensures { result ≡ leb (o + 17) n }
+{
+    o <= n - reply::ROOM
+}
+
+// Where a reply fits: behind the o bytes that wait, or at the start once they are written. It reads the room and no more.
+pub fn place<P: Print>(rt: &P, out: &[u8], o: usize) -> usize
+    requires { 17 ≤ length out.now }
+    ensures { result + 17 ≤ length out.now }
+{
+    if fits(out.len(), o) {
+        return o;
+    }
+    write(rt, out, o);
+    0
+}
+
 // The bytes that wait to be written, at the front of a room in which any reply fits. The room is the caller's, of any length, so it is a slice and a
 // count: no heap, and fixed memory.
 #[derive(Drop)]
@@ -78,7 +98,7 @@ impl<'a, P: Print> Waiting<'a, P> {
         ensures kept { self.new.bytes.now ≡ self.old.bytes.now }
         ensures same_reference { self.new.bytes.ghost_name ≡ self.old.bytes.ghost_name }
     {
-        if self.bytes.len() - reply::ROOM < self.len {
+        if !fits(self.bytes.len(), self.len) {
             self.write();
             self.len = 0;
         }

@@ -14,15 +14,35 @@ use Rattle.line.specs.Param.{is_query}
 use Rattle.line.specs.Shape.{shape_of, Shape, calls}
 use Rattle.state.specs.declared.Unit.{Unit as TheUnit}
 use Rattle.line.specs.declared.names.Name.TheVariants as name
+use Rattle.state.specs.Reasons.{passes_of}
 use Rattle.state.specs.Changes.{gated}
-use Rattle.plans.specs.Needs.{Need, Fits, Shaped, Known, holds_of, reason_of, first_failed}
+use Rattle.plans.specs.Needs.{Need, Fits, Shaped, Known, Opened, Unsealed, In, Same, Steady, Sampled, Held, Shows, Tares, Share, Below, Spans, Unless, holds_of, reason_of, first_failed}
 use Rattle.plans.specs.Plans.{Plan, command_plan}
 use Rattle.plans.specs.Queries.{query_plan}
 use Rattle.plans.specs.Obey.{AllHold, done_of, Why, Outcome, refused_of, settled_of, judge, refusing, served_plan, shape_plan, line_plan, obey_of}
 
+-- no need's reason passes
+pub bars : (n : Need) → passes_of (reason_of n) ≡ false
+bars (Fits b) = refl
+bars (Shaped b) = refl
+bars (Known b) = refl
+bars (Opened b) = refl
+bars (Unsealed lft) = refl
+bars (In z s) = refl
+bars (Same b) = refl
+bars (Steady s) = refl
+bars (Sampled s) = refl
+bars (Held b) = refl
+bars (Shows p) = refl
+bars (Tares z s) = refl
+bars (Share z p nov) = refl
+bars (Below n top) = refl
+bars (Spans k) = refl
+bars (Unless b n) = bars n
+
 -- a need that fails bars the command by its reason
-pub bars : (n : Need) (ns : List Need) → holds_of n ≡ false → first_failed (n ∷ ns) ≡ Some (reason_of n)
-bars n ns h = rw h
+pub barred : (n : Need) (ns : List Need) → holds_of n ≡ false → first_failed (n ∷ ns) ≡ Some (reason_of n)
+barred n ns h = rw h
 
 further : {u : TheUnit} {d o : Outcome} {n : Need} {ns : List Need} → holds_of n ≡ true → Why u ns d o → Why u (n ∷ ns) d o
 further h (inl p) = inl ((h, p.0), p.1)

@@ -13,7 +13,9 @@ use Rattle.state.specs.declared.Reason.TheVariants.{Form, Locked, Barred, Value}
 use Rattle.state.specs.declared.Change.{Change}
 use Rattle.state.specs.declared.Change.TheVariants as change
 use Rattle.state.specs.declared.Unit.{Unit as TheUnit}
+use Rattle.state.specs.Reasons.{passes_of}
 use Rattle.state.specs.Parts.{changed_by}
+use Rattle.plans.specs.declared.Judged.{Judged}
 use Rattle.plans.specs.declared.Obeyed.{Obeyed}
 use Rattle.plans.specs.Needs.{Need, Shaped, first_failed}
 use Rattle.plans.specs.Plans.{Plan}
@@ -65,6 +67,13 @@ said_of (change.To c) = done_text
 abbrev pub judged_as : TheUnit → Result Change Reason → Answer
 judged_as u (Ok c) = record { unit = changed_by u c; reply = reply_of (said_of c) }
 judged_as u (Err r) = answer_of (refused_of u r)
+
+-- the same with what it says and its reason apart
+abbrev pub spoken_text : Bool → List ℕ
+spoken_text silent = pick silent [] done_text
+
+abbrev pub told_as : TheUnit → Judged → Answer
+told_as u j = pick (passes_of j.why) (record { unit = changed_by u j.change; reply = reply_of (spoken_text j.silent) }) (answer_of (refused_of u j.why))
 
 -- a candidate kept or refused
 abbrev pub settled_as : TheUnit → TheUnit → Reply → Option Reason → Answer

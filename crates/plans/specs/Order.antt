@@ -8,6 +8,7 @@ use Rattle.line.specs.declared.shape.Param.{Param}
 use Rattle.line.specs.declared.shape.Param.TheVariants as param
 use Rattle.state.specs.declared.Seen.{Seen}
 use Rattle.state.specs.declared.Reason.{Reason}
+use Rattle.state.specs.declared.Reason.TheVariants as reason
 use Rattle.state.specs.declared.Reason.TheVariants.{Long, Form, Unknown, Locked, Barred, Value, Differs, Unsteady, Pointless, Range, Stands}
 use Rattle.state.specs.declared.Unit.{Unit as TheUnit}
 use Rattle.weighing.specs.Reading.{sampled_of}
@@ -17,6 +18,7 @@ use Rattle.plans.specs.Queries.{query_plan}
 
 -- a reason's row in the table
 abbrev pub row_of : Reason → ℕ
+row_of reason.None = 0
 row_of Long = 1
 row_of Form = 2
 row_of Unknown = 3

@@ -1,15 +1,17 @@
 // Needs, looked at in their order: the first that fails refuses the command by its reason. And a command that was judged: done or refused.
-ghost use Rattle.std.specs.Prelude.{◌≡◌, true, false, eqb, None, OnOk, IfErr};
+ghost use Rattle.std.specs.Prelude.{◌≡◌, true, false, eqb, None, OnOk, IfErr, nat_abs};
+ghost use Rattle.std.specs.Int.Signed.{non_neg};
+ghost use Rattle.cases.specs.Pick.{pick};
 ghost use Rattle.reply.specs.Reply.{reply_of};
 ghost use Rattle.line.specs.Param.{is_nothing};
-ghost use Rattle.state.specs.declared.Reason.TheVariants.{Form};
+ghost use Rattle.state.specs.declared.Reason.TheVariants.{Form, Locked, Barred, Value};
 ghost use Rattle.plans.specs.Obey.{refused_of};
-ghost use Rattle.plans.specs.ObeyLaws.{answer_of, said_of, judged_as, obeyed_as, failed_of, need_of, gate_of, number_typed, value_typed};
+ghost use Rattle.plans.specs.ObeyLaws.{answer_of, spoken_text, told_as, judged_as, obeyed_as, failed_of, need_of, gate_of, number_typed, value_typed};
 
-use crate::Obeyed;
+use crate::{Judged, Obeyed};
 use line::shape::{Number, Param};
 use reply::Reply;
-use state::{Change, Reason, Unit, changes};
+use state::{Change, Reason, Unit, changes, reasons};
 use whole::Whole;
 
 pub fn need(holds: bool, why: Reason) -> Result<(), Reason>
@@ -19,7 +21,25 @@ pub fn need(holds: bool, why: Reason) -> Result<(), Reason>
     if holds { Ok(()) } else { Err(why) }
 }
 
-// P, S and the value.
+// One need before others: the reason where it does not hold, else what those say.
+pub fn rung(holds: bool, why: Reason, rest: Reason) -> Reason
+    ensures { result ≡ pick holds rest why }
+{
+    if holds { rest } else { why }
+}
+
+// P, S and the value, before what the needs behind them say.
+pub fn gate(opened: bool, unsealed: bool, value: bool, rest: Reason) -> Reason
+    ensures { result ≡ pick opened (pick unsealed (pick value rest Value) Barred) Locked }
+{
+    rung(
+        opened,
+        Reason::Locked,
+        rung(unsealed, Reason::Barred, rung(value, Reason::Value, rest)),
+    )
+}
+
+// The same of a unit, with no need behind them.
 pub fn marked(u: Unit, value: bool) -> Result<(), Reason>
     ensures { failed_of result ≡ gate_of u.unlocked (eqb u.used.lft 0) value None }
 {
@@ -36,6 +56,12 @@ pub fn number(p: Param) -> Result<Number, Reason>
         return Err(Reason::Form);
     };
     Ok(x)
+}
+
+pub fn size_of(x: Number) -> Whole
+    ensures { result ≡ record { plus = non_neg x.0; n = nat_abs x.0 } }
+{
+    Whole::from(x.0)
 }
 
 pub fn value(p: Param) -> Result<Whole, Reason>
@@ -63,24 +89,43 @@ pub fn refused(u: Unit, why: Reason) -> Obeyed
     }
 }
 
-// What a done command replies; one that starts the unit again says nothing.
-fn said(c: Change) -> Reply
-    ensures { result ≡ reply_of (said_of c) }
+// What a done command replies.
+fn spoken(silent: bool) -> Reply
+    ensures { result ≡ reply_of (spoken_text silent) }
 {
-    match c {
-        Change::Restart => reply::empty(),
-        Change::To(_) => reply::done(),
+    if silent {
+        reply::empty()
+    } else {
+        reply::done()
     }
 }
 
+// Done where no reason stands against it, else refused.
+pub fn settle_as(u: Unit, j: Judged) -> Obeyed
+    ensures { obeyed_as u result ≡ told_as u j }
+{
+    if !reasons::passes(j.why) {
+        return refused(u, j.why);
+    }
+    Obeyed {
+        change: j.change,
+        reply: spoken(j.silent),
+    }
+}
+
+// One that starts the unit again says nothing.
 pub fn settle(u: Unit, judged: Result<Change, Reason>) -> Obeyed
     ensures { obeyed_as u result ≡ judged_as u judged }
 {
     match judged {
-        Ok(change) => Obeyed {
-            change,
-            reply: said(change),
-        },
+        Ok(change) => settle_as(
+            u,
+            Judged {
+                change,
+                silent: matches!(change, Change::Restart),
+                why: Reason::None,
+            },
+        ),
         Err(why) => refused(u, why),
     }
 }

@@ -17,7 +17,8 @@ pub struct Reply {
 
 // A reply with more behind it. Each step takes it and hands it on, so that it is built in place.
 impl Reply {
-    // Bytes more, where there is room for all of them: one test and one copy.
+    // Bytes more, where there is room for all of them: one test and one copy. The result is made of its two fields: a copy of the whole struct takes
+    // along the gap between them, in pieces, at every step (of queries 75 instructions a line).
     fn push(self, s: &[u8]) -> Reply
         requires { length s.now ≤ ROOM }
         ensures { result ≡ pushes self s.now }
@@ -26,10 +27,12 @@ impl Reply {
         if ROOM - s.len() < at {
             return self;
         }
-        let mut next = self;
-        next.bytes[at..at + s.len()].copy_from_slice(s);
-        next.len = at + s.len();
-        next
+        let mut bytes = self.bytes;
+        bytes[at..at + s.len()].copy_from_slice(s);
+        Reply {
+            bytes,
+            len: at + s.len(),
+        }
     }
 
     // N digits, the last one first; of a number that has more, the last ones. The loop names the places: how much of the number is left goes by them. A digit fits, so `as`.

@@ -78,16 +78,17 @@ unfolding flag_of
 flag_last d a b = either (eqb a 0x31) (λ e. rw e) (λ e. either (eqb a 0x30) (λ k. rw (e, k)) (λ k. rw (e, k)))
 
 -- the sign that a state holds
-sign_back : (n : Bool) (v : ℕ) → (decimal n v).minus ≡ n
-sign_back n v = refl
+sign_back : (n : Bool) → eqb (pick n 1 0) 1 ≡ n
+sign_back true = refl
+sign_back false = refl
 
 module _ (n : Bool) (v w : ℕ) (h : Agree v w) where
   flag_one : (a : ℕ) → ended_of (flag_of (decimal n v) a) ≡ pick (eqb a 0x31 || eqb a 0x30) (sample_of (signed_of n w) (eqb a 0x31)) None
   unfolding flag_of
   flag_one a =
       either (eqb a 0x31)
-      (λ e. rw e (agree_sample n v w true h))
-      (λ e. either (eqb a 0x30) (λ k. rw (e, k) (agree_sample n v w false h)) (λ k. rw (e, k)))
+      (λ e. rw (e, sign_back n) (agree_sample n v w true h))
+      (λ e. either (eqb a 0x30) (λ k. rw (e, k, sign_back n) (agree_sample n v w false h)) (λ k. rw (e, k)))
 
   flag_made : (t : List ℕ) → made (state.Blank (decimal n v)) t ≡ flag_in n w (words_of t).first (words_of t).others
   unfolding state_after words_of flag_of

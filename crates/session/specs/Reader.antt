@@ -10,7 +10,7 @@ use Rattle.session.specs.declared.Event.TheVariants as event
 use Rattle.session.specs.Form.{is_digit, signed_of, sample_of}
 
 abbrev pub decimal : Bool → ℕ → Decimal
-decimal negative size = record { minus = negative; size = size }
+decimal negative size = record { minus = pick negative 1 0; size = size }
 
 -- one digit more; a size beyond every x stays as it is, however many digits follow
 unfoldable pub grown_of : ℕ → ℕ → ℕ
@@ -61,7 +61,7 @@ stepped_of s b = record { next = next_of s b; pass = pass_of s }
 -- the line ends
 abbrev pub ended_of : State → Option Event
 ended_of state.Command = Some event.Command
-ended_of (state.Flag d f) = sample_of (signed_of d.minus d.size) f
+ended_of (state.Flag d f) = sample_of (signed_of (eqb d.minus 1) d.size) f
 ended_of state.R = Some event.Restart
 ended_of _ = None
 

@@ -9,12 +9,12 @@ ghost use Rattle.session.specs.Reader.{decimal, grown_of, digit_of, sign_of, mor
 // The least x has this size; no digit is added to a greater one, so that any count of digits is taken.
 const LEAST: u64 = 2147483648;
 
-// The digits of x that were read, and whether a minus stands in front of them. The bool stands last: a state is copied for each byte, and the gap
-// that a bool leaves before a number makes that copy slow (on a session of all kinds 1,096 instructions a line, and 1,022 so).
+// The digits of x that were read, and 1 where a minus stands in front of them; `step` and `ended` take any other number for none. This is no bool:
+// they would take fewer states, and a state is copied for each byte, which the gap that a bool leaves before a number makes slow.
 #[derive(Clone, Copy)]
 pub struct Decimal {
+    pub minus: u64,
     pub size: u64,
-    pub minus: bool,
 }
 
 // Where a line stands.
@@ -87,7 +87,8 @@ fn digit(d: Decimal, b: u8) -> State
 fn first_digit(minus: bool, b: u8) -> State
     ensures { result ≡ digit_of (decimal minus 0) b }
 {
-    digit(Decimal { size: 0, minus }, b)
+    let minus = if minus { 1 } else { 0 };
+    digit(Decimal { minus, size: 0 }, b)
 }
 
 // A minus or the first digit.
@@ -151,11 +152,11 @@ pub fn has_begun(s: State) -> bool
 }
 
 // x, if it is in signed 32 bits. Its sign is one `if`, which no call would shorten.
-fn sampled(d: Decimal, still: bool) -> Option<Event>
-    ensures { result ≡ sample_of (signed_of d.minus d.size) still }
+fn sampled(minus: bool, digits: u64, still: bool) -> Option<Event>
+    ensures { result ≡ sample_of (signed_of minus digits) still }
 {
-    let size = i64::try_from(d.size).ok()?;
-    let x = if d.minus { -size } else { size };
+    let size = i64::try_from(digits).ok()?;
+    let x = if minus { -size } else { size };
     Some(Event::Sample(i32::try_from(x).ok()?, still))
 }
 
@@ -165,7 +166,7 @@ pub fn ended(s: State) -> Option<Event>
 {
     match s {
         State::Command => Some(Event::Command),
-        State::Flag(d, still) => sampled(d, still),
+        State::Flag(d, still) => sampled(d.minus == 1, d.size, still),
         State::R => Some(Event::Restart),
         _ => None,
     }

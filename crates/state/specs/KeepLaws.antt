@@ -10,7 +10,7 @@ use Rattle.weight.specs.Sets.{gravities, loads, nominals, steps, spans, scale_te
 use Rattle.state.specs.declared.Setting.{Setting}
 use Rattle.state.specs.declared.Setting.TheVariants.{Gca, Gde, Nov, Rsn, Enu, Dpt, Zse, Ztr}
 use Rattle.state.specs.declared.Reason.{Reason}
-use Rattle.state.specs.declared.Reason.TheVariants.{Long, Form, Unknown, Locked, Barred, Value, Differs, Unsteady, Pointless, Range, Stands}
+use Rattle.state.specs.declared.Reason.TheVariants.{None, Long, Form, Unknown, Locked, Barred, Value, Differs, Unsteady, Pointless, Range, Stands}
 use Rattle.state.specs.declared.Sealed.{Sealed}
 use Rattle.state.specs.declared.Free.{Free}
 use Rattle.state.specs.declared.Settings.{Settings}
@@ -102,6 +102,7 @@ unfolding lock_in
 lock_made c r w a b d = yes_all (lock_tests c r w) (a, (b, (d, tt)))
 
 reason_in : (r : Reason) → leb (number_of r) 11 ≡ true
+reason_in None = refl
 reason_in Long = refl
 reason_in Form = refl
 reason_in Unknown = refl

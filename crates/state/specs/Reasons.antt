@@ -1,9 +1,10 @@
 -- Document 01, "Reasons for "?"": the number of each reason. What a reader must believe.
-use Rattle.std.specs.Prelude.{ℕ}
+use Rattle.std.specs.Prelude.{ℕ, Bool, true, false}
 use Rattle.state.specs.declared.Reason.{Reason}
-use Rattle.state.specs.declared.Reason.TheVariants.{Long, Form, Unknown, Locked, Barred, Value, Differs, Unsteady, Pointless, Range, Stands}
+use Rattle.state.specs.declared.Reason.TheVariants.{None, Long, Form, Unknown, Locked, Barred, Value, Differs, Unsteady, Pointless, Range, Stands}
 
 abbrev pub number_of : Reason → ℕ
+number_of None = 0
 -- line too long
 number_of Long = 10
 -- shape malformed, or a form that the command lacks
@@ -26,3 +27,18 @@ number_of Pointless = 8
 number_of Range = 7
 -- the counter stands at its end
 number_of Stands = 9
+
+-- only the one that is no reason lets a command pass
+abbrev pub passes_of : Reason → Bool
+passes_of None = true
+passes_of Long = false
+passes_of Form = false
+passes_of Unknown = false
+passes_of Locked = false
+passes_of Barred = false
+passes_of Value = false
+passes_of Differs = false
+passes_of Unsteady = false
+passes_of Pointless = false
+passes_of Range = false
+passes_of Stands = false

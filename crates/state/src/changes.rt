@@ -187,6 +187,12 @@ pub fn set_password(u: Unit, w: Password) -> Parts
     }
 }
 
+pub fn start_again(u: Unit) -> Change
+    ensures { changed_by u result ≡ restarted_of u }
+{
+    Change::Restart
+}
+
 pub fn refuse(u: Unit, why: Reason) -> Parts
     ensures { parts_of u result ≡ refused_unit u why }
 {

@@ -120,9 +120,11 @@ pub enum Setting {
     Ztr,
 }
 
-// Why a command is refused, with the numbers that ESR? gives.
+// Why a command is refused, with the numbers that ESR? gives. `None` is 0, what ESR? gives where nothing was refused: no need has it, and a command
+// that is not refused is `Ok`, but `refuse` takes every reason.
 #[derive(Clone, Copy, PartialEq)]
 pub enum Reason {
+    None = 0,
     Long = 10,
     Form = 2,
     Unknown = 1,

@@ -1,5 +1,6 @@
 // Over and under, and what a shown value reads as.
 ghost use Rattle.std.specs.Prelude.{◌≡◌, ◌≤◌, ◌^◌, nat_abs};
+ghost use Rattle.cases.specs.Pick.{pick};
 ghost use Rattle.weight.specs.Display.{place_by, cell_place, highest, lowest, place_of, shown_at, figure_by, in_decimal, in_four, two_of, in_two};
 
 use crate::{Cell, Digits, Figure, Limits, Place, Shown};
@@ -71,6 +72,13 @@ pub fn shown_at(p: Place, n: Digits) -> Shown
         Place::Over => Shown::Over,
         Place::Under => Shown::Under,
     }
+}
+
+// What is shown: net at TAS0, else gross. `value_now` (weighing) has the same `if`, since it works out only the one that is shown.
+pub fn net_or_gross(nets: bool, n: Digits, g: Digits) -> Digits
+    ensures { result ≡ pick nets n g }
+{
+    if nets { n } else { g }
 }
 
 // A number as it is, and what over and under read as, which stands once for each format, below.

@@ -8,7 +8,7 @@ use Rattle.session.specs.declared.Event.TheVariants as event
 use Rattle.session.specs.Form.{sample_of, signed_of}
 use Rattle.session.proofs.SampleLaws.{beyond, some_of, none_of}
 use Rattle.session.proofs.sampled.Goals as goal
-use Rattle.session.proofs.sampled.Goals.{then-d, else-d}
+use Rattle.session.proofs.sampled.Goals.{then-minus, else-minus}
 
 -- what a result was, by what became of it
 of_ok : {E : Type 0} (r : Result ℤ E) (P : Type 0) (v y : ℤ) → OkIff r P v → Some y ≡ result_ok r → P × (y ≡ v)
@@ -34,18 +34,18 @@ module _ (minus : Bool) (size : ℕ) (z x : ℤ) (p : SFits w64 (pos size) × (z
 
 pub returns-in_err-size : goal.returns-in_err-size
 returns-in_err-size c =
-    let far : c.args.d.size < 2147483649 → ⊥ = λ l. of_err _ _ _ c.try_from.ensures c.in_err-size.ensures.value (record { sfits = omega (arith, l) }) in
-    c.from_residual.ensures ∙ beyond c.args.d.minus c.args.d.size c.args.still (omega (arith, far))
+    let far : c.args.digits < 2147483649 → ⊥ = λ l. of_err _ _ _ c.try_from.ensures c.in_err-size.ensures.value (record { sfits = omega (arith, l) }) in
+    c.from_residual.ensures ∙ beyond c.args.minus c.args.digits c.args.still (omega (arith, far))
 
 pub returns-in_err-ok : goal.returns-in_err-ok
 returns-in_err-ok c =
     let p = of_ok _ _ _ _ c.try_from.ensures c.in_ok-size.ensures.value in
-    let x : to_z w64 c.if-d.x-bits ≡ signed_of c.args.d.minus c.args.d.size = elim c.if-d.branch [ then-d w ↦ below _ _ _ _ p w.if-d.true w.x-is | else-d w ↦ above _ _ _ _ p w.if-d.false w.x-is ] in
+    let x : to_z w64 c.if-minus.x-bits ≡ signed_of c.args.minus c.args.digits = elim c.if-minus.branch [ then-minus w ↦ below _ _ _ _ p w.if-minus.true w.x-is | else-minus w ↦ above _ _ _ _ p w.if-minus.false w.x-is ] in
     c.from_residual-in_err-ok.ensures ∙ none_of _ c.args.still (of_err _ _ _ c.try_from-2.ensures c.in_err-ok.ensures.value) ∙ ap (λ z. sample_of z c.args.still) x
 
 pub returns : goal.returns
 returns c =
     let p = of_ok _ _ _ _ c.try_from.ensures c.in_ok-size.ensures.value in
-    let x : to_z w64 c.if-d.x-bits ≡ signed_of c.args.d.minus c.args.d.size = elim c.if-d.branch [ then-d w ↦ below _ _ _ _ p w.if-d.true w.x-is | else-d w ↦ above _ _ _ _ p w.if-d.false w.x-is ] in
+    let x : to_z w64 c.if-minus.x-bits ≡ signed_of c.args.minus c.args.digits = elim c.if-minus.branch [ then-minus w ↦ below _ _ _ _ p w.if-minus.true w.x-is | else-minus w ↦ above _ _ _ _ p w.if-minus.false w.x-is ] in
     let q = of_ok _ _ _ _ c.try_from-2.ensures c.in_ok-ok.ensures.value in
     ap (λ z. Some (event.Sample z c.args.still)) (to_z-of_z w32 c.in_ok-ok.field-0 (rw q.1 q.0) ∙ q.1) ∙ some_of _ c.args.still q.0 ∙ ap (λ z. sample_of z c.args.still) x
