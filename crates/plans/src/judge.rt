@@ -101,7 +101,7 @@ fn spoken(silent: bool) -> Reply
 }
 
 // Done where no reason stands against it, else refused.
-pub fn settle_as(u: Unit, j: Judged) -> Obeyed
+pub fn settle(u: Unit, j: Judged) -> Obeyed
     ensures { obeyed_as u result ≡ told_as u j }
 {
     if !reasons::passes(j.why) {
@@ -113,12 +113,12 @@ pub fn settle_as(u: Unit, j: Judged) -> Obeyed
     }
 }
 
-// One that starts the unit again says nothing.
-pub fn settle(u: Unit, judged: Result<Change, Reason>) -> Obeyed
+// A command as it hands itself on: one that starts the unit again says nothing.
+pub fn done_or_refused(u: Unit, judged: Result<Change, Reason>) -> Obeyed
     ensures { obeyed_as u result ≡ judged_as u judged }
 {
     match judged {
-        Ok(change) => settle_as(
+        Ok(change) => settle(
             u,
             Judged {
                 change,

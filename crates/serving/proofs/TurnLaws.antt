@@ -1,6 +1,6 @@
 -- Each way through the loop of `serve` is one turn of the machine, and keeps the unit in range. Assumes nothing.
 use Rattle.std.proofs.Math.Bool.{true, false}
-use Rattle.std.specs.Prelude.{◌≡◌, List, [], ◌++◌, ℕ, ◌+◌, ◌-◌, ◌≤◌, ◌<◌, ltb, length, get_or, set, take, drop}
+use Rattle.std.specs.Prelude.{◌≡◌, refl, Bool, List, [], ◌++◌, ℕ, ◌+◌, ◌-◌, ◌≤◌, ◌<◌, ltb, length, get_or, set, take, drop}
 use Rattle.std.proofs.Common.{sym, ap, ◌∙◌, arith, Fits, length-take, length-drop, ltb-false}
 use Rattle.std.specs.Int.{w64}
 use Rattle.cases.specs.Pick.{pick}
@@ -9,8 +9,9 @@ use Rattle.cases.specs.Run.{run_of, room_of}
 use Rattle.cases.specs.RunLaws.{Going, going_start, going_on, going_quiet, going_full, going_end, part_put}
 use Rattle.line.specs.declared.cut.Pos.{Pos}
 use Rattle.line.specs.declared.cut.Moved.{Moved}
+use Rattle.line.specs.declared.cut.Act.{Act}
 use Rattle.line.specs.declared.cut.Act.TheVariants as act
-use Rattle.line.specs.Line.{none_kept, fresh_pos, is_end, moved_of, stored_of}
+use Rattle.line.specs.Line.{none_kept, fresh_pos, is_end, moved_of, kept_by, stored_of}
 use Rattle.reply.specs.Reply.{fitting, over, reply_of}
 use Rattle.reply.proofs.ReadLaws.{fits}
 use Rattle.state.specs.declared.Unit.{Unit as TheUnit}
@@ -69,6 +70,24 @@ step_sound u b h =
     let m = moved_of u.pos b in
     split (λ t. sound_of (pick t (ended_unit u) (lined u (stored_of u.kept m b) m.pos)) ≡ true) (is_end m.act)
     (λ _. lined_sound _ none_kept fresh_pos (obey_sound u u.kept u.pos h)) (λ _. lined_sound u _ _ h)
+
+-- what a byte leaves of the kept bytes: it is kept at its place, or it is not, and then a line that is too long keeps none
+stored_kept : (kept : List ℕ) (f : Moved) (k b : ℕ) → f.act ≡ act.Keeps k → stored_of kept f b ≡ set kept k b
+unfolding stored_of
+stored_kept kept f k b h = rw h
+
+not_kept : (kept : List ℕ) (a : Act) (long : Bool) (b : ℕ) → ((k : ℕ) → a ≡ act.Keeps k → ⊥) → kept_by kept a long b ≡ pick long none_kept kept
+not_kept kept act.Ends long b h = refl
+not_kept kept (act.Keeps k) long b h = absurd (h k refl)
+not_kept kept act.Drops long b h = refl
+
+stored_long : (kept : List ℕ) (f : Moved) (b : ℕ) → ((k : ℕ) → f.act ≡ act.Keeps k → ⊥) → f.pos.long ≡ true → stored_of kept f b ≡ none_kept
+unfolding stored_of
+stored_long kept f b h l = not_kept kept f.act f.pos.long b h ∙ ap (λ (x : Bool). pick x none_kept kept) l
+
+stored_same : (kept : List ℕ) (f : Moved) (b : ℕ) → ((k : ℕ) → f.act ≡ act.Keeps k → ⊥) → f.pos.long ≡ false → stored_of kept f b ≡ kept
+unfolding stored_of
+stored_same kept f b h l = not_kept kept f.act f.pos.long b h ∙ ap (λ (x : Bool). pick x none_kept kept) l
 
 -- the loop's invariant: the machine goes on, and the unit is in range
 pub record Serving (u : TheUnit) (bytes room₀ room : List ℕ) (v : TheUnit) (i at : ℕ) : Type 0 where

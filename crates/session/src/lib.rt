@@ -9,8 +9,8 @@ ghost use Rattle.session.specs.Reader.{decimal, grown_of, digit_of, sign_of, mor
 // The least x has this size; no digit is added to a greater one, so that any count of digits is taken.
 const LEAST: u64 = 2147483648;
 
-// The digits of x that were read, and 1 where a minus stands in front of them; `step` and `ended` take any other number for none. This is no bool:
-// they would take fewer states, and a state is copied for each byte, which the gap that a bool leaves before a number makes slow.
+// The digits of x that were read, and 1 where a minus stands in front of them: `step` hands on any number here, and `ended` takes any other than 1 for
+// no minus. This is no bool, which holds fewer; and a state is copied for each byte, which the gap that a bool leaves before a number makes slow.
 #[derive(Clone, Copy)]
 pub struct Decimal {
     pub minus: u64,
