@@ -2,7 +2,7 @@
 // many were written, and these in hex. `s` and `r` are the bench's, and all else prints `!` (compare/README.md, "The raw form").
 #![tactic(auto)]
 
-ghost use Rattle.std.specs.Prelude.{◌≤◌, ◌<◌, IfSome};
+ghost use Rattle.std.specs.Prelude.{◌≡◌, ◌-◌, ◌≤◌, ◌<◌, Some, IfSome};
 
 use pipe::{Lines, SoundUnit, Waiting};
 use session::{Event, State};
@@ -44,7 +44,10 @@ struct Blocks {
 
 // A hex digit's value. By ranges: a `char` and its `to_digit` take longer.
 fn value(b: u8) -> Option<u8>
-    ensures { IfSome result (λ v. v < 16) }
+    ensures below { IfSome result (λ v. v < 16) }
+    ensures decimal { 0x30 ≤ b → b ≤ 0x39 → result ≡ Some (b - 0x30) }
+    ensures lower { 0x61 ≤ b → b ≤ 0x66 → result ≡ Some (b - 0x57) }
+    ensures upper { 0x41 ≤ b → b ≤ 0x46 → result ≡ Some (b - 0x37) }
 {
     match b {
         b'0'..=b'9' => Some(b - b'0'),
@@ -84,8 +87,7 @@ fn moved(s: Stage, b: u8) -> (Stage, Option<u8>) {
     (stage, None)
 }
 
-// A block, and the room of n bytes that it is given. Its digits come from a table: by `{b:02x}` a block with
-// long replies took 1.3 times as long.
+// A block, and the room of n bytes that it is given. Its digits come from a table: by `{b:02x}` a block with long replies took 1.3 times as long.
 fn take<P: Print>(sound: SoundUnit, bytes: &[u8], n: usize, out: &mut Waiting<P>) -> SoundUnit
     requires { n ≤ 1024 }
 {

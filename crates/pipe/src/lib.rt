@@ -3,6 +3,7 @@
 
 ghost use Rattle.std.specs.Io.KnownBytes.{Consumes};
 ghost use Rattle.std.specs.Prelude.{◌≡◌, true, ◌+◌, ◌-◌, ◌≤◌, leb, length, get_or, set, take, None};
+ghost use Rattle.cases.specs.Pick.{pick};
 ghost use Rattle.session.specs.declared.State.{State as TheState};
 ghost use Rattle.state.specs.Sound.{sound_of};
 ghost use Rattle.pipe.specs.Happened.{happened_of};
@@ -74,7 +75,8 @@ fn fits(n: usize, o: usize) -> bool
 // Where a reply fits: behind the o bytes that wait, or at the start once they are written. It reads the room and no more.
 pub fn place<P: Print>(rt: &P, out: &[u8], o: usize) -> usize
     requires { 17 ≤ length out.now }
-    ensures { result + 17 ≤ length out.now }
+    ensures room { result + 17 ≤ length out.now }
+    ensures behind { result ≡ pick (leb (o + 17) (length out.now)) o 0 }
 {
     if fits(out.len(), o) {
         return o;
@@ -101,6 +103,7 @@ impl<'a, P: Print> Waiting<'a, P> {
     // A reply fits behind what waits, which is written first where it does not.
     pub fn place(&mut self)
         ensures room { self.new.len + 17 ≤ length self.new.bytes.now }
+        ensures behind { self.new.len ≡ pick (leb (self.old.len + 17) (length self.old.bytes.now)) self.old.len 0 }
         ensures kept { self.new.bytes.now ≡ self.old.bytes.now }
         ensures same_reference { self.new.bytes.ghost_name ≡ self.old.bytes.ghost_name }
     {

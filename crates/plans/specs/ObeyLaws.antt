@@ -1,5 +1,5 @@
 -- What the code's steps come to. Assumes nothing.
-use Rattle.std.specs.Prelude.{◌≡◌, refl, false, ◌∷◌, Option, Some, None, Result, Ok, Err, Bool, List, [], ℕ, nat_abs}
+use Rattle.std.specs.Prelude.{◌≡◌, refl, false, ◌∷◌, Option, Some, None, Result, Ok, Err, Bool, List, [], ℕ, ℤ, nat_abs}
 use Rattle.std.specs.Int.Signed.{non_neg}
 use Rattle.cases.specs.Pick.{pick}
 use Rattle.whole.specs.declared.Whole.{Whole}
@@ -33,6 +33,10 @@ need_of b r = pick b None (Some r)
 abbrev pub gate_of : Bool → Bool → Bool → Option Reason → Option Reason
 gate_of opened unsealed value rest = pick opened (pick unsealed (pick value rest (Some Value)) (Some Barred)) (Some Locked)
 
+-- a number by its sign and size
+abbrev pub size_of : ℤ → Whole
+size_of z = record { plus = non_neg z; n = nat_abs z }
+
 -- a number, or a form that the command lacks
 abbrev pub number_typed : Param → Result Number Reason
 number_typed param.Nothing = Err Form
@@ -43,7 +47,7 @@ number_typed (param.Text a k) = Err Form
 abbrev pub value_typed : Param → Result Whole Reason
 value_typed param.Nothing = Err Form
 value_typed param.Query = Err Form
-value_typed (param.Number x) = Ok (record { plus = non_neg x.0; n = nat_abs x.0 })
+value_typed (param.Number x) = Ok (size_of x.0)
 value_typed (param.Text a k) = Err Form
 
 -- an outcome with its text as a reply

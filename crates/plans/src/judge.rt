@@ -1,12 +1,11 @@
 // Needs, looked at in their order: the first that fails refuses the command by its reason. And a command that was judged: done or refused.
-ghost use Rattle.std.specs.Prelude.{◌≡◌, true, false, eqb, None, OnOk, IfErr, nat_abs};
-ghost use Rattle.std.specs.Int.Signed.{non_neg};
+ghost use Rattle.std.specs.Prelude.{◌≡◌, true, false, eqb, None, Some, OnOk, IfErr};
 ghost use Rattle.cases.specs.Pick.{pick};
 ghost use Rattle.reply.specs.Reply.{reply_of};
 ghost use Rattle.line.specs.Param.{is_nothing};
-ghost use Rattle.state.specs.declared.Reason.TheVariants.{Form, Locked, Barred, Value};
+ghost use Rattle.state.specs.declared.Reason.TheVariants.{Form};
 ghost use Rattle.plans.specs.Obey.{refused_of};
-ghost use Rattle.plans.specs.ObeyLaws.{answer_of, spoken_text, told_as, judged_as, obeyed_as, failed_of, need_of, gate_of, number_typed, value_typed};
+ghost use Rattle.plans.specs.ObeyLaws.{answer_of, spoken_text, told_as, judged_as, obeyed_as, failed_of, need_of, gate_of, size_of, number_typed, value_typed};
 
 use crate::{Judged, Obeyed};
 use line::shape::{Number, Param};
@@ -30,13 +29,15 @@ pub fn rung(holds: bool, why: Reason, rest: Reason) -> Reason
 
 // P, S and the value, before what the needs behind them say.
 pub fn gate(opened: bool, unsealed: bool, value: bool, rest: Reason) -> Reason
-    ensures { result ≡ pick opened (pick unsealed (pick value rest Value) Barred) Locked }
+    ensures { Some result ≡ gate_of opened unsealed value (Some rest) }
 {
-    rung(
-        opened,
-        Reason::Locked,
-        rung(unsealed, Reason::Barred, rung(value, Reason::Value, rest)),
-    )
+    if !opened {
+        return Reason::Locked;
+    }
+    if !unsealed {
+        return Reason::Barred;
+    }
+    rung(value, Reason::Value, rest)
 }
 
 // The same of a unit, with no need behind them.
@@ -59,7 +60,7 @@ pub fn number(p: Param) -> Result<Number, Reason>
 }
 
 pub fn size_of(x: Number) -> Whole
-    ensures { result ≡ record { plus = non_neg x.0; n = nat_abs x.0 } }
+    ensures { result ≡ size_of x.0 }
 {
     Whole::from(x.0)
 }

@@ -87,8 +87,13 @@ fn digit(d: Decimal, b: u8) -> State
 fn first_digit(minus: bool, b: u8) -> State
     ensures { result ≡ digit_of (decimal minus 0) b }
 {
-    let minus = if minus { 1 } else { 0 };
-    digit(Decimal { minus, size: 0 }, b)
+    digit(
+        Decimal {
+            minus: u64::from(minus),
+            size: 0,
+        },
+        b,
+    )
 }
 
 // A minus or the first digit.
