@@ -2,7 +2,8 @@
 // many were written, and these in hex. `s` and `r` are the bench's, and all else prints `!` (compare/README.md, "The raw form").
 #![tactic(auto)]
 
-ghost use Rattle.std.specs.Prelude.{◌≡◌, ◌-◌, ◌≤◌, ◌<◌, Some, IfSome};
+ghost use Rattle.std.specs.Prelude.{◌≡◌, ◌≤◌, ◌<◌, IfSome};
+ghost use Rattle.blocks.specs.Hex.{hex_of};
 
 use pipe::{Lines, SoundUnit, Waiting};
 use session::{Event, State};
@@ -45,9 +46,7 @@ struct Blocks {
 // A hex digit's value. By ranges: a `char` and its `to_digit` take longer.
 fn value(b: u8) -> Option<u8>
     ensures below { IfSome result (λ v. v < 16) }
-    ensures decimal { 0x30 ≤ b → b ≤ 0x39 → result ≡ Some (b - 0x30) }
-    ensures lower { 0x61 ≤ b → b ≤ 0x66 → result ≡ Some (b - 0x57) }
-    ensures upper { 0x41 ≤ b → b ≤ 0x46 → result ≡ Some (b - 0x37) }
+    ensures said { result ≡ hex_of b }
 {
     match b {
         b'0'..=b'9' => Some(b - b'0'),
